@@ -13,7 +13,7 @@ import subprocess
 import sys
 import tempfile
 
-from common import HERE, TESTBENCH, YAMLTOK, build_libyaml, line
+from common import HERE, TESTBENCH, YAMLTOK, answer_help, build_libyaml, line
 from decode import DECODING
 from growth import GROWTH
 from instructions import INSTRUCTIONS
@@ -97,4 +97,5 @@ def main():
 
 
 if __name__ == "__main__":
+    answer_help()
     main()

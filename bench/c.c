@@ -5,6 +5,9 @@
  * tabs in it: what, by which library, how many tokens or events, best, median. Compiled with WITH_LIBFYAML, and with
  * libfyaml, it measures that too. Memory is taken and given back within each time.
  *
+ * c texts TIMES LIBYAML FILE..: nine times, in turn with libyaml, opens, scans and closes each file so many times, one
+ * after the other, and says how long one time took for all files. The rooms stay for all of them.
+ *
  * c memory FILE LIBRARY WHAT: does so once with one library that has libyaml's functions, and prints how many kilobytes
  * that takes beside the input. The input is in memory before, and is given as a string. WHAT is tokens or events. */
 #define _POSIX_C_SOURCE 200809L
@@ -90,36 +93,60 @@ static long parse_by(const struct library *library) {
     return type == YAML_STREAM_END_EVENT ? count : 0;
 }
 
+/* The rooms for tokens and for texts. */
+struct rooms {
+    struct bogzhami_token *tokens;
+    uint8_t *texts;
+    size_t text_room;
+};
+
 /* Makes the room for texts as long as that in place of what it was. */
-static int make_text_room(uint8_t **texts, size_t *len, uint64_t wanted) {
-    free(*texts);
-    *len = wanted;
-    *texts = calloc(wanted, 1);
-    return *texts != NULL;
+static int make_text_room(struct rooms *rooms, uint64_t wanted) {
+    free(rooms->texts);
+    rooms->text_room = wanted;
+    rooms->texts = calloc(wanted, 1);
+    return rooms->texts != NULL;
+}
+
+static int make_rooms(struct rooms *rooms, size_t most) {
+    rooms->texts = NULL;
+    rooms->tokens = calloc(most, sizeof *rooms->tokens);
+    return make_text_room(rooms, TEXT_ROOM) && rooms->tokens;
+}
+
+static void free_rooms(struct rooms *rooms) {
+    free(rooms->tokens);
+    free(rooms->texts);
 }
 
 /* Scans by calls that give so many tokens at most. The rooms are the same in all calls, unless a text is too long. */
-static long next_by(size_t most) {
+static long next_in(struct rooms *rooms, size_t most) {
     struct bogzhami_handle handle = BOGZHAMI_CLOSED;
-    struct bogzhami_token *tokens = calloc(most, sizeof *tokens);
     struct bogzhami_answer answer = {0};
-    size_t text_room = 0;
-    uint8_t *texts = NULL;
-    uint32_t status = BOGZHAMI_NO_MEMORY;
+    uint32_t status = bogzhami_open(&handle, bytes, size, BOGZHAMI_ANY_ENCODING, 1024);
     long count = 0;
-    if (make_text_room(&texts, &text_room, TEXT_ROOM) && tokens)
-        status = bogzhami_open(&handle, bytes, size, BOGZHAMI_ANY_ENCODING, 1024);
     while (status == BOGZHAMI_DONE) {
-        status = bogzhami_next(&handle, bytes, size, tokens, most, texts, text_room, &answer);
+        status = bogzhami_next(&handle, bytes, size, rooms->tokens, most, rooms->texts, rooms->text_room, &answer);
         count += (long)answer.token_count;
-        if (status == BOGZHAMI_NO_ROOM && make_text_room(&texts, &text_room, answer.text_len))
+        if (status == BOGZHAMI_NO_ROOM && make_text_room(rooms, answer.text_len))
             status = BOGZHAMI_DONE;
     }
     bogzhami_close(&handle);
-    free(tokens);
-    free(texts);
     return status == BOGZHAMI_OVER ? count : 0;
 }
+
+static long next_by(size_t most) {
+    struct rooms rooms;
+    long count = make_rooms(&rooms, most) ? next_in(&rooms, most) : 0;
+    free_rooms(&rooms);
+    return count;
+}
+
+static struct rooms kept; /* that stay for all texts */
+
+static long kept_256(void) { return next_in(&kept, 256); }
+static long kept_16(void) { return next_in(&kept, 16); }
+static long kept_1(void) { return next_in(&kept, 1); }
 
 static struct bogzhami_answer counts; /* how large the rooms for all have to be, by a scan that is not timed */
 
@@ -166,12 +193,13 @@ static long scan_libfyaml(void) {
 }
 #endif
 
-static struct measure {
+struct measure {
     const char *what, *by;
     long (*take)(void);
     long count;
     double times[RUNS];
-} measures[] = {
+};
+static struct measure measures[] = {
     {.what = "tokens", .by = "bogzhami_next, 256 a call", .take = next_256},
     {.what = "tokens", .by = "bogzhami_next, 64 a call", .take = next_64},
     {.what = "tokens", .by = "bogzhami_next, 16 a call", .take = next_16},
@@ -186,6 +214,14 @@ static struct measure {
     {.what = "events", .by = "libyaml", .take = parse_libyaml},
 };
 #define MEASURES (sizeof measures / sizeof *measures)
+
+static struct measure of_texts[] = {
+    {.what = "tokens", .by = "bogzhami_next, 256 a call", .take = kept_256},
+    {.what = "tokens", .by = "bogzhami_next, 16 a call", .take = kept_16},
+    {.what = "tokens", .by = "bogzhami_next, 1 a call", .take = kept_1},
+    {.what = "tokens", .by = "libyaml", .take = scan_libyaml},
+};
+#define OF_TEXTS (sizeof of_texts / sizeof *of_texts)
 
 static double now(void) {
     struct timespec time;
@@ -205,7 +241,7 @@ static int read_file(const char *path) {
     fseek(file, 0, SEEK_END);
     size = (size_t)ftell(file);
     rewind(file);
-    unsigned char *room = malloc(size);
+    unsigned char *room = malloc(size + 1);
     int is_read = room && fread(room, 1, size, file) == size;
     bytes = room;
     fclose(file);
@@ -223,9 +259,8 @@ static int measure_once(int run) {
     return 1;
 }
 
-static void print_times(void) {
-    for (size_t i = 0; i < MEASURES; i++) {
-        struct measure *one = &measures[i];
+static void print_times(struct measure *all, size_t count) {
+    for (struct measure *one = all; one < all + count; one++) {
         qsort(one->times, RUNS, sizeof *one->times, compare);
         printf("%s\t%s\t%ld\t%.0f\t%.0f\n", one->what, one->by, one->count, one->times[0], one->times[RUNS / 2]);
     }
@@ -237,7 +272,54 @@ static int measure_times(const char *libyaml_path, const char *our_path) {
     for (int run = 0; run < RUNS; run++)
         if (!measure_once(run))
             return 0;
-    print_times();
+    print_times(measures, MEASURES);
+    return 1;
+}
+
+/* A text that stays in memory. */
+struct text {
+    const unsigned char *bytes;
+    size_t size;
+};
+
+/* Takes all tokens of all texts, so many times. Returns how many the texts have, or 0 if one has a fault. */
+static long take_texts(long (*take)(void), const struct text *texts, long count, long times) {
+    long all = 0;
+    for (long i = 0; i < count * times; i++) {
+        bytes = texts[i % count].bytes;
+        size = texts[i % count].size;
+        long taken = take();
+        if (taken == 0)
+            return 0;
+        all += taken;
+    }
+    return all / times;
+}
+
+static int measure_texts_once(const struct text *texts, long count, long times, int run) {
+    for (struct measure *one = of_texts; one < of_texts + OF_TEXTS; one++) {
+        double start = now();
+        one->count = take_texts(one->take, texts, count, times);
+        one->times[run] = (now() - start) / (double)times;
+        if (one->count == 0)
+            return 0;
+    }
+    return 1;
+}
+
+static int measure_texts(long times, const char *libyaml_path, char **paths, long count) {
+    struct text *texts = calloc((size_t)count, sizeof *texts);
+    if (!texts || times < 1 || !open_library(&libyaml, libyaml_path) || !make_rooms(&kept, 256))
+        return 0;
+    for (long i = 0; i < count; i++) {
+        if (!read_file(paths[i]))
+            return 0;
+        texts[i] = (struct text){bytes, size};
+    }
+    for (int run = 0; run < RUNS; run++)
+        if (!measure_texts_once(texts, count, times, run))
+            return 0;
+    print_times(of_texts, OF_TEXTS);
     return 1;
 }
 
@@ -267,6 +349,8 @@ static int measure_memory(const char *path, const char *what) {
 }
 
 int main(int argc, char **argv) {
+    if (argc > 4 && !strcmp(argv[1], "texts"))
+        return !measure_texts(atol(argv[2]), argv[3], argv + 4, argc - 4);
     if (argc != 5 || !read_file(argv[2]))
         return 1;
     if (!strcmp(argv[1], "times"))

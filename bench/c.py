@@ -4,7 +4,9 @@
 c.py needs the libraries that ffi/build and uses/libyaml/build make, a C compiler and libyaml's header and library
 (Debian: libyaml-dev); libfyaml is measured if its header is there (libfyaml-dev). All take the same bytes, from memory,
 in turn, in one run on one core, and nothing is listed. Then it tells how much memory uses/libyaml and libyaml take
-beside the input. c.py FILE.. measures those files in place of its own two texts.
+beside the input. c.py FILE.. measures those files in place of its own two texts. At the end, for manifests, JSON and the
+shortest texts, it tells the nanoseconds that a token takes, and that a text takes from its opening to its closing, with
+rooms that are made once.
 """
 
 import datetime
@@ -14,8 +16,10 @@ import subprocess
 import sys
 import tempfile
 
+from common import answer_help
 from dense import dense
 from realistic import realistic
+from texts import from_c
 
 HERE = os.path.dirname(os.path.abspath(__file__))
 TOP = os.path.dirname(HERE)
@@ -73,6 +77,25 @@ def tell_memory(program, path, libyaml):
             print(f"| {what} | {who} | {most} |")
 
 
+def tell_texts(program, room, libyaml):
+    """Nanoseconds for texts that are opened, scanned and closed one after the other, some 2 MB or 20,000 texts a run."""
+    print("\n| texts | number | bytes | tokens | by | ns a token, best (median) | ns a text | times as fast as libyaml |")
+    print("|---|---|---|---|---|---|---|---|")
+    for name, texts in from_c():
+        paths = [os.path.join(room, f"text.{at}") for at in range(len(texts))]
+        for path, text in zip(paths, texts):
+            with open(path, "w", encoding="ascii") as file:
+                file.write(text)
+        size = sum(map(len, texts))
+        times = min(2_000_000 // max(size, 1), 20_000)
+        lines = [line.split("\t")[1:] for line in run(program, "texts", str(times), libyaml, *paths).splitlines()]
+        of_libyaml = next(float(best) for who, _, best, _ in lines if who == "libyaml")
+        for who, count, best, median in lines:
+            token, half, text = float(best) / int(count), float(median) / int(count), float(best) / len(texts)
+            about = f"{name} | {len(texts)} | {size} | {count} | {who}"
+            print(f"| {about} | {token:.1f} ({half:.1f}) | {text:.0f} | {of_libyaml / float(best):.2f} |")
+
+
 def write_texts(room):
     """Writes the two texts into a folder, and yields their paths."""
     for name, text in (("realistic.yaml", realistic(10_000_000, 7)), ("dense.yaml", dense(10_000_000, 7))):
@@ -91,7 +114,9 @@ def main():
         for path in sys.argv[1:] or write_texts(room):
             tell_times(os.path.basename(path), os.path.getsize(path), list(measure(program, path, libyaml)))
             tell_memory(program, path, libyaml)
+        tell_texts(program, room, libyaml)
 
 
 if __name__ == "__main__":
+    answer_help()
     main()

@@ -3,6 +3,7 @@
 import collections
 import os
 import subprocess
+import sys
 import tempfile
 
 HERE = os.path.dirname(os.path.abspath(__file__))
@@ -18,6 +19,13 @@ Table = collections.namedtuple("Table", "title note columns fixed rows")
 Ours = collections.namedtuple("Ours", "count best median")
 # the same, the best time of a copy of the bytes, and how many of the scans came to their end
 Libyaml = collections.namedtuple("Libyaml", "bytes count best median copy ended")
+
+
+def answer_help():
+    """Ends a script that is asked what it does, before it measures anything."""
+    if {"-h", "--help"} & set(sys.argv[1:]):
+        print(sys.modules["__main__"].__doc__.strip())
+        sys.exit(0)
 
 
 def build_libyaml(folder):

@@ -7,7 +7,7 @@ that also scans with libyaml). Accepted UTF-8 is checked and borrowed, so nothin
 
 import sys
 
-from common import Table, measure_libyaml, measure_ours, milliseconds, print_table
+from common import Table, answer_help, measure_libyaml, measure_ours, milliseconds, print_table
 from texts import decoded
 
 COLUMNS = ["Text", "Bytes", "Decoding, ms", "GB/s", "A copy, ms", "GB/s of a copy"]
@@ -29,4 +29,5 @@ def rows(folder):
 DECODING = Table("Decoding", NOTE, COLUMNS, 2, rows)
 
 if __name__ == "__main__":
+    answer_help()
     print_table(DECODING)

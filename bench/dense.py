@@ -7,6 +7,8 @@ Short keys with short values, lists of numbers and flow mappings, indented by fo
 import random
 import sys
 
+from common import answer_help
+
 KEYS = "name width height address country position duration quantity identity measured distance reference".split()
 VALUES = "yes none open closed northern southern downward selected complete suspended unlimited registered".split()
 
@@ -69,4 +71,5 @@ def dense(size, seed):
 
 
 if __name__ == "__main__":
+    answer_help()
     sys.stdout.write(dense(int(sys.argv[1]) if len(sys.argv) > 1 else 10_000_000, int(sys.argv[2]) if len(sys.argv) > 2 else 7))

@@ -7,7 +7,7 @@ before it is known whether a key stands there.
 
 import sys
 
-from common import Table, measure_ours, milliseconds, print_table, ratio
+from common import Table, answer_help, measure_ours, milliseconds, print_table, ratio
 from texts import TIMES, keys_of_keys, nested_keys
 
 MAPPINGS = "mappings, each the key of the one around it"
@@ -51,4 +51,5 @@ def rows(_):
 GROWTH = Table("Growth", NOTE, COLUMNS, 3, rows)
 
 if __name__ == "__main__":
+    answer_help()
     print_table(GROWTH)

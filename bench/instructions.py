@@ -9,7 +9,7 @@ a run of two. A listing is counted whole, with the start of the program and the 
 import re
 import subprocess
 
-from common import TESTBENCH, YAMLTOK, Table, build_libyaml, measure_libyaml, measure_ours, print_table, ratio, write_file
+from common import TESTBENCH, YAMLTOK, Table, answer_help, build_libyaml, measure_libyaml, measure_ours, print_table, ratio, write_file
 from texts import dense, json_text, realistic
 
 SIZE = 200_000
@@ -46,4 +46,5 @@ def rows(folder):
 INSTRUCTIONS = Table("Instructions a token", NOTE, COLUMNS, 8, rows)
 
 if __name__ == "__main__":
+    answer_help()
     print_table(INSTRUCTIONS)

@@ -5,7 +5,7 @@ lexeme.py needs the program testbench as the gate builds it (crates/testbench/ou
 (Debian: libyaml-dev). Texts of about 1 MB are made anew each time, from a fixed seed.
 """
 
-from common import Table, measure_libyaml, measure_ours, milliseconds, print_table, ratio
+from common import Table, answer_help, measure_libyaml, measure_ours, milliseconds, print_table, ratio
 from texts import scalars, short_entries
 
 COLUMNS = ["Text", "Bytes", "Ours, best (median) in ms", "libyaml, best (median) in ms", "Times as fast", "A copy, ms"]
@@ -33,4 +33,5 @@ def rows(folder):
 
 
 if __name__ == "__main__":
+    answer_help()
     print_table(Table("Lexemes", "", COLUMNS, 2, rows))

@@ -8,7 +8,7 @@ import os
 import subprocess
 import sys
 
-from common import HERE, PINNED, YAMLTOK, Table, measure_ours, milliseconds, print_table, ratio, write_file
+from common import HERE, PINNED, YAMLTOK, Table, answer_help, measure_ours, milliseconds, print_table, ratio, write_file
 from texts import LARGE, dense, realistic
 
 RUNS = 9
@@ -65,4 +65,5 @@ def rows(folder):
 LISTING = Table("Listing", NOTE, COLUMNS, 3, rows)
 
 if __name__ == "__main__":
+    answer_help()
     print_table(LISTING)

@@ -18,7 +18,7 @@ import tempfile
 import time
 
 from c import machine
-from common import line
+from common import answer_help, line
 from realistic import realistic
 
 HERE = os.path.dirname(os.path.abspath(__file__))
@@ -92,4 +92,5 @@ def main():
 
 
 if __name__ == "__main__":
+    answer_help()
     main()

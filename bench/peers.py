@@ -20,7 +20,7 @@ import sys
 import tempfile
 
 from c import machine
-from common import line, ratio
+from common import answer_help, line, ratio
 from realistic import realistic
 
 HERE = os.path.dirname(os.path.abspath(__file__))
@@ -254,4 +254,5 @@ def main():
 
 
 if __name__ == "__main__":
+    answer_help()
     main()

@@ -8,7 +8,12 @@ import os
 import re
 import sys
 
-import matplotlib
+from common import answer_help
+
+if __name__ == "__main__":
+    answer_help()  # before the module that may be lacking
+
+import matplotlib  # noqa: E402
 
 matplotlib.use("svg")
 from matplotlib import pyplot  # noqa: E402

@@ -16,6 +16,7 @@ os.environ.setdefault("BOGZHAMI_LIBRARY", os.path.join(TOP, "ffi", "out", "libbo
 sys.path[:0] = [os.path.join(TOP, "python")]
 
 import yaml
+from common import answer_help
 from bogzhami import pyyaml, scan
 from realistic import realistic
 
@@ -91,4 +92,5 @@ def main():
 
 
 if __name__ == "__main__":
+    answer_help()
     main()

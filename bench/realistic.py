@@ -7,6 +7,8 @@ Block mappings and sequences nested a few deep, short plain scalars, some in quo
 import random
 import sys
 
+from common import answer_help
+
 NOUNS = (
     "name image port host path level mode user group count limit region cluster service replica volume timeout retries schedule"
     " owner version label target source branch bucket policy handler queue topic"
@@ -99,4 +101,5 @@ def realistic(size, seed):
 
 
 if __name__ == "__main__":
+    answer_help()
     sys.stdout.write(realistic(int(sys.argv[1]) if len(sys.argv) > 1 else 10_000_000, int(sys.argv[2]) if len(sys.argv) > 2 else 7))

@@ -6,7 +6,7 @@ It needs the program testbench as the gate builds it.
 
 import random
 
-from common import Table, measure_ours, milliseconds, print_table, ratio
+from common import Table, answer_help, measure_ours, milliseconds, print_table, ratio
 from texts import TIMES, dense, json_text, lines, realistic, short_entries
 
 SIZE = 1_100_000
@@ -43,4 +43,5 @@ def rows(_):
 REFUSED = Table("Refused inputs", NOTE, COLUMNS, 3, rows)
 
 if __name__ == "__main__":
+    answer_help()
     print_table(REFUSED)

@@ -10,7 +10,7 @@ import os
 import sys
 import time
 
-from common import Table, measure_libyaml, measure_ours, milliseconds, print_table, ratio
+from common import Table, answer_help, measure_libyaml, measure_ours, milliseconds, print_table, ratio
 from texts import scanned
 
 # They take turns so often at least, and for so many seconds.
@@ -63,4 +63,5 @@ def rows_of_files(folder):
 SCANNING = Table("Scanning", NOTE, COLUMNS, 3, rows)
 
 if __name__ == "__main__":
+    answer_help()
     print_table(SCANNING._replace(rows=rows_of_files) if sys.argv[1:] else SCANNING)

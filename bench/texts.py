@@ -63,6 +63,12 @@ def short_entries(count=TIMES):
     return "".join(f"- {word(r)}{word(r)}\n" for _ in range(count))
 
 
+def entries(between, end, count=TIMES // 2):
+    """Keys and values, of which each ends with the same characters."""
+    r = random.Random(7)
+    return "".join(f"{word(r)}:{between}{word(r)}{end}" for _ in range(count))
+
+
 def json_value(r, depth):
     kind = r.random()
     if depth < 3 and kind < 0.35:
@@ -72,14 +78,35 @@ def json_value(r, depth):
     return r.choice([r.randrange(100_000), r.randrange(100_000) / 1000, True, False, None, words(r, r.randrange(1, 20))])
 
 
-def json_text(size):
-    """A JSON text of about so many bytes, indented by two."""
+def json_text(size, indent=2):
+    """A JSON text, of about so many bytes if it is indented by two; on one line if the indent is None."""
     r = random.Random(7)
     made, count = [], 0
     while count < size:
         made.append({word(r): json_value(r, 0) for _ in range(3)})
         count += len(json.dumps(made[-1], indent=2))
-    return json.dumps(made, indent=2) + "\n"
+    return json.dumps(made, indent=indent) + "\n"
+
+
+def manifest(r, size=3_000):
+    """A text of about so many bytes as those that say what a cluster runs."""
+    made = f"# {words(r, 40)}\napiVersion: apps/v1\nkind: Deployment\nmetadata:\n  name: {word(r)}-{word(r)}\n  labels:\n"
+    made += f"    app: {word(r)}\n    tier: \"{word(r)}\"\nspec:\n  replicas: {r.randrange(9)}\n  containers:\n"
+    while len(made) < size:
+        made += f"  - name: {word(r)}-{word(r)}\n    image: \"{word(r)}/{word(r)}:{r.randrange(99)}\"\n    # {words(r, 30)}\n"
+        made += f"    ports:\n    - containerPort: {r.randrange(9999)}\n      protocol: TCP\n    resources: {{cpu: {r.randrange(900)}m}}\n"
+        made += f"    command: [\"{word(r)}\", '-{word(r)}', --{word(r)}={word(r)}]\n    script: |\n      {words(r, 40)}\n      {words(r, 30)}\n"
+    return made
+
+
+def from_c():
+    """Lists of texts that are opened, scanned and closed one after the other through the interface for C."""
+    r = random.Random(7)
+    yield "manifests, 3 KB each", [manifest(r) for _ in range(100)]
+    yield "JSON on one line", [json_text(SIZE, None)]
+    yield "JSON in lines", [json_text(SIZE)]
+    yield "an empty text", [""]
+    yield "`a: 1`", ["a: 1"]
 
 
 def scanned():
@@ -87,6 +114,9 @@ def scanned():
     yield "realistic, 10 MB", realistic(LARGE, 7)
     yield "dense, 10 MB", dense(LARGE, 7)
     yield f"{TIMES:,} short plain scalars, each an entry", short_entries()
+    yield f"{TIMES // 2:,} short values, each line ends with CR LF", entries(" ", "\r\n")
+    yield f"{TIMES // 2:,} short values, each line ends with two blanks", entries(" ", "  \n")
+    yield f"{TIMES // 2:,} short values in typographic quotes", entries(" \u201c", "\u201d\n")
     for piece in "- ", "? ":
         yield f"{TIMES:,} times `{piece}`", piece * TIMES
     for name, text in scalars():

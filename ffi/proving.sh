@@ -39,7 +39,7 @@ show_progress() {
     if [ "$status" -eq 0 ]; then
       printf '%s\n' "$part" >> "$log"
       if [[ $part =~ ^(checked\ .*,|so far:)\ ([0-9]+)\ of\ ([0-9]+) ]]; then
-        # another crate may begin without a line that says so, as with --jobs
+        # another crate may begin without a line that says so, as with RT_JOBS
         [ "${BASH_REMATCH[3]}" = "$of" ] || count=0
         of=${BASH_REMATCH[3]}
         # rt has two counts, in lines of two kinds: the greater one is shown

@@ -25,6 +25,20 @@ take_no_words() {
   [ $# -eq 0 ] || refuse_words "there is no use for '$1'"
 }
 
+# Puts into the variable `jobs` the words by which rt proves as many functions at once as RT_JOBS says, if that is set. rt ci reads
+# the variable itself. Ends a script if it is no number.
+take_jobs() {
+  jobs=()
+  [ -n "${RT_JOBS:-}" ] || return 0
+  [[ $RT_JOBS =~ ^[1-9][0-9]*$ ]] || refuse_words "RT_JOBS is no number of jobs: '$RT_JOBS'"
+  jobs=(--jobs "$RT_JOBS")
+}
+
+# What that variable does, for the usage of the scripts that prove.
+print_jobs() {
+  echo "The variable RT_JOBS says how many functions are proved at once. Without it that depends on processors and memory."
+}
+
 # What the words of the program may be, for the usage of the scripts that run it.
 print_commands() {
   cat << END
@@ -53,6 +67,14 @@ check_command() {
     *) refuse_words "there is no encoding '$2'$(hint_at_input "$2")" ;;
   esac
   check_last_words "$1" "${@:3}"
+}
+
+# Ends a script whose standard input is closed or a folder, which the program would refuse too.
+check_input() {
+  local why
+  if [ ! -e /dev/fd/0 ]; then why="Bad file descriptor"; elif [ -d /dev/fd/0 ]; then why="Is a directory"; else return 0; fi
+  echo "$script: standard input: $why" >&2
+  exit 3
 }
 
 # Ends a script if what follows the encoding does not belong to this command.

@@ -3,7 +3,8 @@
 
 A command is a line of a code block, without its comment. Each is run, and its status and what it prints are compared, or it is
 left out for a reason that is printed; its names are then compared to those that ./dev lists. Names that are missing or wrong are
-tried for each command of ./dev. Each script of tests/ that needs a program says so if it is called without one.
+tried for each command of ./dev. Each script of tests/ that needs a program says so if it is called without one, and all of them
+say what they do.
 What needs the built programs is left out if they are not there or older than the sources. Takes a minute.
 
 The commands of each README are run in a checkout of a commit, with a kit that proves nothing (lib/readmes.py).
@@ -59,9 +60,15 @@ WRONG_NAMES = {
     "edit bom_of_three_bytes": (2, r"Near it:\n(  [\w/]+\n)*  yaml_text/bom_of_two_bytes\n"),
     "vector": (2, r"Which input\? Its bytes in hexadecimal"),
     "vector 6": (2, r"Which input\? Its bytes in hexadecimal"),
-    "docs more": (2, r"takes 0 names at most\.\nusage: \./dev COMMAND"),
-    "check yaml_text IS_ALPHA more": (2, r"takes 2 names at most"),
+    "docs more": (2, r"^There is no use for more\.\nusage: \./dev docs\n$"),
+    "quick x y": (2, r"^There is no use for x\.\nusage: \./dev quick\n$"),
+    "check yaml_text IS_ALPHA more": (2, r"^There is no use for more\.\nusage: \./dev check CRATE \[FUNCTION\]\n$"),
+    "quick --help": (0, r"\./dev COMMAND \[NAME\]"),
+    "check yaml_text --version": (0, r"^dev \(Bogzhami\) [\d.]+\n$"),
 }
+
+# files of bench/ that are no measure by themselves
+PARTS_OF_BENCH = ["child.py", "common.py", "texts.py"]
 
 
 def load_dev():
@@ -167,6 +174,27 @@ def try_usages(dev):
     return not wrong and len(needing) > 10
 
 
+def try_helps(dev):
+    """Each script that is asked what it does says it, and one that is given an option that it has not says how it is called:
+    nothing is built or run for that."""
+    asked = [(name, status, f"tests/{name}.py {word}") for name in dev.scripts() for word, status in (("--help", 0), ("--jsn", 2))]
+    wrong = []
+    for (name, wanted, words), (status, said) in zip(asked, call_all(f"{sys.executable} {words}" for _, _, words in asked)):
+        if status != wanted or not re.match(rf"usage: (tests/)?{name}\.py ", said):
+            wrong.append((words, status, said[-200:]))
+    print(f"commands: {len(asked)} scripts that are asked for help, or given an option, {len(wrong)} wrong {wrong or ''}")
+    return not wrong and len(asked) > 20
+
+
+def try_measures():
+    """Each script of bench/ that is asked what it does says it, and measures nothing."""
+    asked = [name for name in sorted(os.listdir(os.path.join(TOP, "bench"))) if name.endswith(".py") and name not in PARTS_OF_BENCH]
+    answers = call_all(f"{sys.executable} bench/{name} --help" for name in asked)
+    wrong = [(name, said[-200:]) for name, (status, said) in zip(asked, answers) if status or name not in said or "Traceback" in said]
+    print(f"commands: {len(asked)} scripts of bench/ that are asked for help, {len(wrong)} wrong {wrong or ''}")
+    return not wrong and len(asked) > 10
+
+
 def try_readmes(dev):
     """The READMEs of the repository, in a checkout on this machine, with a kit that proves nothing."""
     import readmes
@@ -183,8 +211,12 @@ def try_readmes(dev):
 
 def main():
     dev = load_dev()
-    return 0 if all([try_readmes(dev), try_commands(dev), try_wrong_names(), try_uses_of_docs(), try_table(dev), try_usages(dev)]) else 1
+    good = [try_readmes(dev), try_commands(dev), try_wrong_names(), try_uses_of_docs(), try_table(dev), try_usages(dev)]
+    return 0 if all([*good, try_helps(dev), try_measures()]) else 1
 
 
 if __name__ == "__main__":
+    from lib.usage import answer_questions
+
+    answer_questions()
     sys.exit(main())

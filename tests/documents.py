@@ -6,7 +6,7 @@ One line of output for each check; what is wrong is printed before it. The check
 - paths: what a document has in backticks or as a link, and looks like a path of the repository, is there. A `*` stands for
   any name. Paths are from the repository's root, or from the document's folder. What scripts write may be missing:
   bench/results.md, docs/speed.svg and what is in a folder `out`. The documents are README.md, CHANGELOG.md, CONTRIBUTING.md,
-  docs/, and the README files of tests/, bench/, uses/, rust/ and python/.
+  docs/, and the README files of tests/, bench/, uses/, ffi/, rust/, python/ and of each crate.
 - rules: in RULES.md every heading has a line with a definition and a code file, and a link to it. What that line names is
   in the file that it names: a definition in parentheses, and a test. The clauses are those that `./dev folders` writes, and
   there is one for each definition. walks.py follows the line further.
@@ -56,7 +56,7 @@ from rules import files_in, front_and_sections, rules, tests_in
 
 ROOT = os.path.dirname(os.path.dirname(os.path.abspath(__file__)))
 DOCUMENTS = ["README.md", "CHANGELOG.md", "CONTRIBUTING.md", "docs/*.md", "tests/README.md", "bench/README.md", "uses/*/README.md",
-             "ffi/README.md", "rust/README.md", "python/README.md"]
+             "ffi/README.md", "rust/README.md", "python/README.md", "crates/*/README.md"]
 FOLDERS = ("bench", "crates", "docs", "ffi", "packaging", "python", "rust", "tests", "uses")
 ENDINGS = ("antt", "c", "css", "edit", "gz", "h", "html", "md", "py", "rs", "rt", "txt")
 STAND_FOR_NAMES = {"FILE", "FUNCTION", "NAME"}
@@ -424,4 +424,7 @@ def main():
 
 
 if __name__ == "__main__":
+    from lib.usage import answer_questions
+
+    answer_questions()
     sys.exit(main())

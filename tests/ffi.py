@@ -11,9 +11,10 @@ the expected tokens, also of a text of 50 MB (lib/pages.py). The library exports
 VERSION has, and names their numbers. Each request for memory of list.c is refused in turn.
 
 A scanner that is held gives what the scan at once gives, whatever the batches, rooms, peeks, turns, threads and refused
-requests are (held.c). It gives all tokens of deep texts, and takes less than a megabyte besides a long input. How far it has
-read is that of paces.txt.gz. scanner.rs gives the same tokens one by one, in batches and after peeks, and borrows from the
-input what it can (held.rs). What needs a C compiler, rustc or valgrind is skipped if there is none.
+requests are, wherever it is closed, and whichever other scanners of its input are closed before (held.c); valgrind and the
+address sanitizer find nothing. It gives all tokens of deep texts, and takes less than a megabyte besides a long input. How far
+it has read is that of paces.txt.gz. scanner.rs gives the same tokens one by one, in batches and after peeks, and borrows from the
+input what it can (held.rs). What needs a C compiler, its address sanitizer, rustc or valgrind is skipped if there is none.
 """
 
 import ctypes as c
@@ -30,12 +31,12 @@ HERE = os.path.dirname(os.path.abspath(__file__))
 CRATE = os.path.join(os.path.dirname(HERE), "crates", "yaml_c", "src")
 sys.path.insert(0, os.path.join(HERE, "lib"))
 sys.dont_write_bytecode = True
-from held import FFI, SETTINGS, VALGRIND, Handle, build_held, build_rust, try_counts, try_long, try_reach, try_rust, try_tests
-from held import try_valgrind
+from held import FFI, SETTINGS, VALGRIND, Handle, build_held, build_rust, inputs_of_tests, try_counts, try_long, try_reach
+from held import try_rust, try_sanitized, try_tests, try_valgrind
 from library import VERSION, build_library
 from pages import try_pages
 from worked import MEMORY, build_refuser, run
-from wrong_uses import try_name_calls, try_wrong_uses
+from wrong_uses import RUST, try_name_calls, try_wrong_uses
 
 PLAIN = {"u32": c.c_uint32, "i32": c.c_int32, "u64": c.c_uint64}
 RECORDS = ["mark", "token", "answer"]
@@ -403,10 +404,11 @@ def try_examples(programs, rows):
 
 
 def try_held(room, every, rust):
-    programs = build_held(room)
+    programs, inputs = build_held(room), inputs_of_tests(every, SMALL)
     good = [
-        try_tests(programs, every),
-        try_valgrind(programs[0], every),
+        try_tests(programs, every, inputs),
+        try_valgrind(programs[0], inputs),
+        try_sanitized(room, inputs),
         not rust or try_rust(room, every),
         try_counts(programs[0]),
         try_long(programs[0]),
@@ -446,7 +448,7 @@ def main():
         if shutil.which("c++"):
             programs.append(build_cplusplus(room))
         if rust:
-            programs.append(os.path.join(room, "list_rs"))
+            programs.append(os.path.join(room, RUST))
             build_rust(os.path.join(FFI, "list.rs"), programs[-1])
         good = [
             try_library(every),
@@ -464,4 +466,7 @@ def main():
 
 
 if __name__ == "__main__":
+    from lib.usage import answer_questions
+
+    answer_questions()
     sys.exit(main())

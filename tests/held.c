@@ -15,6 +15,7 @@
 
 enum { MOST_TOKENS = 1000, SPARE = 3, FILL = 0xA5, PREFIXES = 20, FIRST_TOKENS = 10, MOST_SHOWN = 20 };
 enum { FAULT_TEXTS = 256 }; /* more bytes than the texts of a fault have */
+enum { MOST_BATCH = 40, LOW_LIMIT = 4, MANY = 16 };
 
 struct input {
     uint32_t encoding, key_limit;
@@ -231,12 +232,21 @@ static void check_left(const struct run *r, struct expected e, size_t tokens_len
     check(is_filled(texts + written, texts + texts_len + SPARE), "something is behind the last text");
 }
 
-/* Calls bogzhami_next, checks everything, and returns its status. */
-static uint32_t next(struct run *r, size_t tokens_len, size_t texts_len) {
-    struct expected e = expect(r, tokens_len, texts_len);
+/* Fills the rooms, and calls bogzhami_next. */
+static uint32_t call_next(struct run *r, size_t tokens_len, size_t texts_len) {
     fill_rooms(tokens_len, texts_len);
-    uint32_t status =
-        bogzhami_next(&r->handle, r->input->bytes, r->input->len, tokens, tokens_len, texts, texts_len, &answer);
+    return bogzhami_next(&r->handle, r->input->bytes, r->input->len, tokens, tokens_len, texts, texts_len, &answer);
+}
+
+static uint32_t call_peek(struct run *r, size_t texts_len) {
+    fill_rooms(1, texts_len);
+    return bogzhami_peek(&r->handle, r->input->bytes, r->input->len, tokens, texts, texts_len, &answer);
+}
+
+/* Checks everything that a call of bogzhami_next returned and left behind. Returns its status, or BOGZHAMI_OVER if that
+ * is wrong. */
+static uint32_t check_next(struct run *r, uint32_t status, size_t tokens_len, size_t texts_len) {
+    struct expected e = expect(r, tokens_len, texts_len);
     check(status == e.status, "the status of bogzhami_next");
     check_left(r, e, tokens_len, texts_len);
     r->taken += e.count;
@@ -246,14 +256,19 @@ static uint32_t next(struct run *r, size_t tokens_len, size_t texts_len) {
 }
 
 /* The same of bogzhami_peek, which takes nothing. */
-static uint32_t peek(struct run *r, size_t texts_len) {
+static uint32_t check_peek(const struct run *r, uint32_t status, size_t texts_len) {
     struct expected e = expect(r, 1, texts_len);
-    fill_rooms(1, texts_len);
-    uint32_t status = bogzhami_peek(&r->handle, r->input->bytes, r->input->len, tokens, texts, texts_len, &answer);
     check(status == e.status, "the status of bogzhami_peek");
     check_left(r, e, 1, texts_len);
     return status;
 }
+
+/* Calls bogzhami_next, checks everything, and returns its status. */
+static uint32_t next(struct run *r, size_t tokens_len, size_t texts_len) {
+    return check_next(r, call_next(r, tokens_len, texts_len), tokens_len, texts_len);
+}
+
+static uint32_t peek(struct run *r, size_t texts_len) { return check_peek(r, call_peek(r, texts_len), texts_len); }
 
 static uint32_t open_run(struct bogzhami_handle *handle, const struct input *i) {
     return bogzhami_open(handle, i->bytes, i->len, i->encoding, i->key_limit);
@@ -463,9 +478,7 @@ static bool is_memory_fault(uint64_t count) {
 
 /* Peeks, and returns whether the memory fault was shown. */
 static bool peek_refused(struct run *r) {
-    fill_rooms(1, all_texts(r->whole));
-    uint32_t status =
-        bogzhami_peek(&r->handle, r->input->bytes, r->input->len, tokens, texts, all_texts(r->whole), &answer);
+    uint32_t status = call_peek(r, all_texts(r->whole));
     bool is_fault = status == BOGZHAMI_FAULT && answer.error == BOGZHAMI_MEMORY_ERROR;
     if (is_fault)
         check(is_memory_fault(0), "the memory fault that is shown");
@@ -477,9 +490,7 @@ static bool peek_refused(struct run *r) {
 /* Takes the next two tokens, and returns whether more may come. */
 static bool take_refused(struct run *r, bool is_fault_shown) {
     const struct whole *w = r->whole;
-    fill_rooms(2, all_texts(w));
-    uint32_t status =
-        bogzhami_next(&r->handle, r->input->bytes, r->input->len, tokens, 2, texts, all_texts(w), &answer);
+    uint32_t status = call_next(r, 2, all_texts(w));
     check(are_next(w, r->taken, answer.token_count), "a token before refused memory");
     r->taken += answer.token_count;
     if (status == BOGZHAMI_DONE && !is_fault_shown && answer.token_count)
@@ -507,8 +518,7 @@ static bool run_refused(const struct input *i, const struct whole *w, long first
     if (status == BOGZHAMI_DONE) {
         while (take_refused(&r, peeks && peek_refused(&r)))
             ;
-        fill_rooms(1, 0);
-        status = bogzhami_next(&r.handle, i->bytes, i->len, tokens, 1, texts, 0, &answer);
+        status = call_next(&r, 1, 0);
         check(status == BOGZHAMI_OVER && answer.token_count == 0, "what comes after the end");
         check(bogzhami_close(&r.handle) == BOGZHAMI_DONE, "closing after refused memory");
     } else {
@@ -554,6 +564,370 @@ static void try_refused(const struct input *i, const struct whole *w) {
         were_so_many = scan_all_refused(i, w, first, first + 1) || were_so_many;
     }
     check(!were_so_many, "the requests do not end");
+}
+
+static bool tell_refused(void) {
+    printf(", %ld whole runs, %ld beginnings, %ld not opened", whole_runs, beginnings, not_opened);
+    return true;
+}
+
+/* Each request refused alone: the call that makes it answers. */
+
+enum place { IN_OPEN, IN_ONE, IN_MANY, IN_PEEK, PLACES };
+static const char *const place_names[] = {"in open", "in next for 1", "in next for 16", "in peek"};
+static long refused_in[PLACES];
+
+/* A run in which the request of a number is refused. */
+struct refusal {
+    struct run run;
+    size_t tokens_len;
+    long number;
+    bool is_shown; /* the memory fault, by a peek */
+    long faults;   /* how often it was given */
+};
+
+static bool is_made(const struct refusal *f) { return requests >= f->number; }
+
+/* Counts a request that was refused in the last call. Returns whether it was. */
+static bool count_refusal(const struct refusal *f, bool was_made, enum place place) {
+    bool is_here = is_made(f) && !was_made;
+    refused_in[place] += is_here;
+    return is_here;
+}
+
+/* Checks that a call of bogzhami_next gave the memory fault, after tokens that come next. */
+static void check_memory(struct refusal *f, uint32_t status, size_t texts_len) {
+    struct run *r = &f->run;
+    uint64_t left = r->whole->answer.token_count - r->taken, count = answer.token_count, len = 0;
+    check(status == BOGZHAMI_FAULT && is_memory_fault(count), "a refused request is not answered by the memory fault");
+    check(count <= left && count < f->tokens_len, "more tokens before refused memory than there are");
+    if (count > left || count >= f->tokens_len)
+        return;
+    for (uint64_t n = 0; n < count; n++)
+        len += text_len(&r->whole->tokens[r->taken + n]);
+    check(answer.text_len == len && are_next(r->whole, r->taken, count), "a token before refused memory");
+    check(is_filled(tokens + count, tokens + f->tokens_len + SPARE), "something is behind the last record");
+    check(is_filled(texts + len, texts + texts_len + SPARE), "something is behind the last text");
+    check(count == 0 || !f->is_shown, "tokens before a fault that was shown");
+    f->faults++;
+}
+
+/* Peeks twice: what is shown is the next token, or the memory fault if the request is refused here. */
+static void peek_refusal(struct refusal *f) {
+    size_t texts_len = all_texts(f->run.whole);
+    for (int n = 0; n < 2; n++) {
+        bool was_made = is_made(f);
+        uint32_t status = call_peek(&f->run, texts_len);
+        f->is_shown = count_refusal(f, was_made, IN_PEEK) || f->is_shown;
+        if (!f->is_shown)
+            check_peek(&f->run, status, texts_len);
+        else
+            check(status == BOGZHAMI_FAULT && is_memory_fault(0) && is_filled(tokens, tokens + 1 + SPARE),
+                  "a request that is refused in a peek is not answered by the memory fault");
+    }
+}
+
+/* Takes the next tokens. Returns whether more may come. */
+static bool take_refusal(struct refusal *f) {
+    size_t texts_len = all_texts(f->run.whole);
+    bool was_made = is_made(f);
+    uint32_t status = call_next(&f->run, f->tokens_len, texts_len);
+    bool is_here = count_refusal(f, was_made, f->tokens_len == 1 ? IN_ONE : IN_MANY);
+    if (!is_here && !f->is_shown)
+        return check_next(&f->run, status, f->tokens_len, texts_len) == BOGZHAMI_DONE;
+    check_memory(f, status, texts_len);
+    f->run.is_over = true;
+    return false;
+}
+
+/* Takes all, with peeks or without. */
+static void take_all_refusal(struct refusal *f, bool peeks) {
+    bool is_opened_whole = !is_made(f);
+    do {
+        if (peeks)
+            peek_refusal(f);
+    } while (take_refusal(f));
+    check(f->faults == (is_opened_whole && is_made(f)), "the memory fault is not given once");
+    f->run.is_over = true;
+    next(&f->run, f->tokens_len, all_texts(f->run.whole));
+    peek(&f->run, all_texts(f->run.whole));
+    check(bogzhami_close(&f->run.handle) == BOGZHAMI_DONE, "closing after refused memory");
+}
+
+/* One run in which the request of a number is refused. Returns whether there were so many. */
+static bool run_refusal(const struct input *i, const struct whole *w, long number, size_t tokens_len, bool peeks) {
+    long blocks_before = blocks;
+    struct refusal f = {{i, w, BOGZHAMI_CLOSED, 0, false}, tokens_len, number, false, 0};
+    refuse(number, number);
+    uint32_t status = open_run(&f.run.handle, i);
+    if (count_refusal(&f, false, IN_OPEN))
+        check(status == BOGZHAMI_NO_MEMORY, "bogzhami_open without memory");
+    else
+        check(status == BOGZHAMI_DONE, "bogzhami_open with memory");
+    if (status == BOGZHAMI_DONE)
+        take_all_refusal(&f, peeks);
+    bool were_so_many = is_made(&f);
+    refuse(0, 0);
+    check(blocks == blocks_before, "a refused request leaves blocks");
+    check_not_live(&f.run.handle, i);
+    return were_so_many;
+}
+
+static void try_refusals(const struct input *i, const struct whole *w) {
+    static const size_t rooms[] = {1, MANY};
+    for (size_t n = 0; n < 2 * sizeof rooms / sizeof *rooms; n++)
+        for (long number = 1; run_refusal(i, w, number, rooms[n / 2], n % 2); number++)
+            ;
+}
+
+static bool tell_refusals(void) {
+    bool is_each_seen = true;
+    for (size_t n = 0; n < PLACES; n++) {
+        printf(", %ld refused %s", refused_in[n], place_names[n]);
+        is_each_seen = is_each_seen && refused_in[n];
+    }
+    return is_each_seen;
+}
+
+/* Batches of every size, and closing at every place, in rooms that a checker of memory sees the ends of. */
+
+static void *copy_of(const void *bytes, size_t len) {
+    void *block = malloc(len);
+    if (len)
+        memcpy(need(block), bytes, len);
+    return block;
+}
+
+/* Calls bogzhami_next, or bogzhami_peek for no tokens, with rooms in blocks of their own, of just this length, and
+ * checks everything. */
+static uint32_t call_alone(struct run *r, size_t tokens_len, size_t texts_len) {
+    const struct input *i = r->input;
+    size_t records = tokens_len ? tokens_len : 1;
+    fill_rooms(records, texts_len);
+    struct bogzhami_token *own_tokens = copy_of(tokens, records * sizeof *tokens);
+    uint8_t *own_texts = copy_of(texts, texts_len);
+    uint32_t status =
+        tokens_len ? bogzhami_next(&r->handle, i->bytes, i->len, own_tokens, tokens_len, own_texts, texts_len, &answer)
+                   : bogzhami_peek(&r->handle, i->bytes, i->len, own_tokens, own_texts, texts_len, &answer);
+    memcpy(tokens, own_tokens, records * sizeof *tokens);
+    if (texts_len)
+        memcpy(texts, own_texts, texts_len);
+    free(own_tokens);
+    free(own_texts);
+    return tokens_len ? check_next(r, status, tokens_len, texts_len) : check_peek(r, status, texts_len);
+}
+
+static uint32_t next_alone(struct run *r, size_t tokens_len) { return call_alone(r, tokens_len, all_texts(r->whole)); }
+
+static void peek_alone(struct run *r) { call_alone(r, 0, all_texts(r->whole)); }
+
+/* Takes all by calls for so many tokens, with a peek before each third call. */
+static void drain_alone(struct run *r, size_t tokens_len) {
+    size_t calls = 0;
+    do {
+        if (calls++ % 3 == 2)
+            peek_alone(r);
+    } while (next_alone(r, tokens_len) == BOGZHAMI_DONE);
+    check(next_alone(r, tokens_len) == BOGZHAMI_OVER && r->is_over, "what comes after all is given");
+}
+
+static void try_sizes(const struct input *i, const struct whole *w) {
+    long blocks_before = blocks;
+    for (size_t tokens_len = 1; tokens_len <= MOST_BATCH; tokens_len++) {
+        struct run r = begin(i, w);
+        drain_alone(&r, tokens_len);
+        end(&r);
+    }
+    check(blocks == blocks_before, "closing after all does not free all");
+}
+
+/* What is done last before a scanner is closed. */
+static void do_nothing(struct run *r) { (void)r; }
+
+static void show_last(struct run *r) { peek_alone(r); }
+
+static void lack_last(struct run *r) {
+    call_alone(r, MANY, 0);
+    call_alone(r, MANY, 0);
+}
+
+static void lack_shown_last(struct run *r) { call_alone(r, 0, 0); }
+
+static void open_anew_last(struct run *r) {
+    check(open_run(&r->handle, r->input) == BOGZHAMI_DONE, "opening a handle that is live");
+    r->taken = 0;
+    r->is_over = false;
+    next_alone(r, 1);
+}
+
+/* Closes after so many calls and a last one. Returns whether more may come after these calls. */
+static bool close_after(const struct input *i, const struct whole *w, size_t tokens_len, size_t calls,
+                        void (*last)(struct run *)) {
+    long blocks_before = blocks;
+    struct run r = begin(i, w);
+    for (size_t n = 0; n < calls; n++)
+        next_alone(&r, tokens_len);
+    bool may_come = !r.is_over;
+    last(&r);
+    end(&r);
+    check(blocks == blocks_before, "closing does not free all");
+    return may_come;
+}
+
+static void try_closes(const struct input *i, const struct whole *w) {
+    static void (*const lasts[])(struct run *) = {do_nothing, show_last, lack_last, lack_shown_last, open_anew_last};
+    for (size_t n = 0; n < sizeof lasts / sizeof *lasts; n++) {
+        for (size_t calls = 0; close_after(i, w, 1, calls, lasts[n]); calls++)
+            ;
+        for (size_t calls = 0; close_after(i, w, 3, calls, lasts[n]); calls++)
+            ;
+    }
+}
+
+/* Scanners of one input by turns, of which one is closed before the others. */
+
+/* How far a scanner has read that takes the tokens one by one, after each call. */
+static struct bogzhami_mark *reaches_alone(const struct input *i, const struct whole *w) {
+    struct bogzhami_mark *marks = need(calloc(w->answer.token_count + 2, sizeof *marks));
+    struct run r = begin(i, w);
+    for (uint64_t n = 0; n < w->answer.token_count + 2; n++) {
+        next(&r, 1, all_texts(w));
+        check(bogzhami_reach(&r.handle, &marks[n]) == BOGZHAMI_DONE, "bogzhami_reach");
+    }
+    end(&r);
+    return marks;
+}
+
+/* Takes a token, and checks how far is read then. */
+static void next_reaching(struct run *r, size_t *calls, const struct bogzhami_mark *reaches) {
+    struct bogzhami_mark mark;
+    next(r, 1, all_texts(r->whole));
+    check(bogzhami_reach(&r->handle, &mark) == BOGZHAMI_DONE, "bogzhami_reach");
+    check(!memcmp(&mark, &reaches[*calls], sizeof mark), "how far is read beside another scanner");
+    *calls += *calls < r->whole->answer.token_count + 1;
+}
+
+/* Three scanners, of which that of a number is closed after so many turns: one that takes token by token, one that
+ * peeks and takes two, and one with another key limit. Then one of the input before takes its place. */
+static void try_three(struct run all[3], uint64_t turns, size_t closed, const struct bogzhami_mark *reaches) {
+    struct run late = {0};
+    size_t calls = 0;
+    for (uint64_t n = 0; !(all[0].is_over && all[1].is_over && all[2].is_over) || n <= turns; n++) {
+        if (n == turns) {
+            end(&all[closed]);
+            all[closed].is_over = true;
+            late = begin(&before, &whole_before);
+        }
+        if (late.whole)
+            next(&late, 1, all_texts(&whole_before));
+        if (closed != 0 || n < turns)
+            next_reaching(&all[0], &calls, reaches);
+        if (closed != 1 || n < turns) {
+            peek(&all[1], all_texts(all[1].whole));
+            next(&all[1], 2, all_texts(all[1].whole));
+        }
+        if (closed != 2 || n < turns)
+            next(&all[2], 1, all_texts(all[2].whole));
+    }
+    for (size_t n = 0; n < 3; n++)
+        if (n != closed)
+            end(&all[n]);
+    drain(&late, 2, all_texts(&whole_before));
+    end(&late);
+}
+
+/* Makes the room for texts long enough for an input. */
+static void lengthen_texts(const struct whole *w) {
+    size_t len = all_texts(w), len_before = all_texts(&whole_before);
+    texts = need(realloc(texts, (len > len_before ? len : len_before) + SPARE));
+}
+
+static void try_pairs(const struct input *i, const struct whole *w) {
+    struct input limited = *i;
+    limited.key_limit = i->key_limit == LOW_LIMIT ? 1024 : LOW_LIMIT;
+    struct whole whole_limited = scan_whole(&limited);
+    struct bogzhami_mark *reaches = reaches_alone(i, w);
+    lengthen_texts(all_texts(w) > all_texts(&whole_limited) ? w : &whole_limited);
+    long blocks_before = blocks;
+    for (uint64_t turns = 0; turns <= w->answer.token_count + 1; turns++)
+        for (size_t closed = 0; closed < 3; closed++) {
+            struct run all[3] = {begin(i, w), begin(i, w), begin(&limited, &whole_limited)};
+            try_three(all, turns, closed, reaches);
+        }
+    check(blocks == blocks_before, "closing one after the other does not free all");
+    free(reaches);
+    free(whole_limited.tokens);
+    free(whole_limited.texts);
+}
+
+/* Texts that have no room at first. */
+
+/* How many there were, for each type of token, and of a fault under the number 0. */
+static uint64_t lacking[BOGZHAMI_SCALAR_TOKEN + 1];
+
+static bool is_fault_next(const struct run *r) { return r->taken == r->whole->answer.token_count; }
+
+/* How many bytes the texts have of what comes next. */
+static uint64_t next_len(const struct run *r) {
+    return is_fault_next(r) ? fault_len(r->whole) : text_len(&r->whole->tokens[r->taken]);
+}
+
+/* Asks again and again with rooms that are too short: nothing is given, and the length that is needed is told. */
+static void ask_in_vain(struct run *r, size_t tokens_len) {
+    uint64_t len = next_len(r), shorts[] = {0, len - 1, len / 2, 0};
+    for (size_t n = 0; n < sizeof shorts / sizeof *shorts; n++) {
+        check(next(r, tokens_len, shorts[n]) == BOGZHAMI_NO_ROOM && answer.text_len == len, "a text without room");
+        check(peek(r, shorts[n]) == BOGZHAMI_NO_ROOM && answer.text_len == len, "a text without room in a peek");
+    }
+}
+
+/* How many bytes the next text and the one after it have, less one: there is room for the first alone. */
+static uint64_t short_of_two(const struct run *r) {
+    const struct whole *w = r->whole;
+    uint64_t at = r->taken + 1;
+    while (at < w->answer.token_count && text_len(&w->tokens[at]) == 0)
+        at++;
+    return next_len(r) + (at < w->answer.token_count ? text_len(&w->tokens[at]) - 1 : 0);
+}
+
+/* Takes what comes next, which has a text, after it was asked for in vain, before a peek and after it. */
+static void take_at_last(struct run *r, size_t tokens_len, bool peeks) {
+    uint32_t type = is_fault_next(r) ? 0 : r->whole->tokens[r->taken].token_type;
+    uint64_t taken = r->taken, len = next_len(r);
+    ask_in_vain(r, tokens_len);
+    if (peeks) {
+        check(peek(r, len) == (type ? BOGZHAMI_DONE : BOGZHAMI_FAULT), "a peek with room");
+        ask_in_vain(r, tokens_len);
+    }
+    next(r, tokens_len, tokens_len == 1 || !type ? len : short_of_two(r));
+    check(type ? r->taken > taken : r->is_over, "a text is not given in the room that it needs");
+    lacking[type]++;
+}
+
+static void try_needs(const struct input *i, const struct whole *w) {
+    static const size_t rooms[] = {1, MANY};
+    for (size_t n = 0; n < 2 * sizeof rooms / sizeof *rooms; n++) {
+        struct run r = begin(i, w);
+        while (!r.is_over)
+            if (next_len(&r))
+                take_at_last(&r, rooms[n / 2], n % 2);
+            else
+                next(&r, rooms[n / 2], 0);
+        check(next(&r, 1, 0) == BOGZHAMI_OVER, "what comes after all is given");
+        end(&r);
+    }
+}
+
+static bool tell_needs(void) {
+    static const uint32_t types[] = {BOGZHAMI_TAG_DIRECTIVE_TOKEN, BOGZHAMI_ALIAS_TOKEN, BOGZHAMI_ANCHOR_TOKEN,
+                                     BOGZHAMI_TAG_TOKEN, BOGZHAMI_SCALAR_TOKEN};
+    bool is_each_seen = lacking[0];
+    printf(", without room at first %llu FAULT", (unsigned long long)lacking[0]);
+    for (size_t n = 0; n < sizeof types / sizeof *types; n++) {
+        printf(" %llu %s", (unsigned long long)lacking[types[n]], bogzhami_token_name(types[n]));
+        is_each_seen = is_each_seen && lacking[types[n]];
+    }
+    return is_each_seen;
 }
 
 /* The peak of memory. */
@@ -657,12 +1031,25 @@ static int try_long(size_t len) {
     return peak_before < 0 || wrongs;
 }
 
+/* The tests, and what some of them tell at the end, and return whether all was seen that is to be. */
 static const struct {
     const char *name;
     void (*test)(const struct input *, const struct whole *);
-} tests[] = {{"batches", try_batches},   {"rooms", try_rooms},     {"prefixes", try_prefixes},
-             {"peeks", try_peeks},       {"turns", try_turns},     {"threads", try_threads},
-             {"statuses", try_statuses}, {"nothing", try_nothing}, {"refused", try_refused}};
+    bool (*tell)(void);
+} tests[] = {{"batches", try_batches, NULL},
+             {"rooms", try_rooms, NULL},
+             {"prefixes", try_prefixes, NULL},
+             {"peeks", try_peeks, NULL},
+             {"turns", try_turns, NULL},
+             {"threads", try_threads, NULL},
+             {"statuses", try_statuses, NULL},
+             {"nothing", try_nothing, NULL},
+             {"refused", try_refused, tell_refused},
+             {"refusals", try_refusals, tell_refusals},
+             {"sizes", try_sizes, NULL},
+             {"closes", try_closes, NULL},
+             {"pairs", try_pairs, NULL},
+             {"needs", try_needs, tell_needs}};
 
 /* Runs a test, and keeps the input as the one before. */
 static void try_input(void (*test)(const struct input *, const struct whole *), struct input i) {
@@ -686,6 +1073,7 @@ static void try_input(void (*test)(const struct input *, const struct whole *), 
 int main(int argc, char **argv) {
     size_t number = 0;
     struct input i;
+    setvbuf(stdout, NULL, _IOLBF, BUFSIZ); /* so that what was wrong is told before a crash */
     if (argc == 3 && !strcmp(argv[1], "long"))
         return try_long((size_t)strtoull(argv[2], NULL, 10));
     if (argc == 2 && !strcmp(argv[1], "counts"))
@@ -699,8 +1087,7 @@ int main(int argc, char **argv) {
     forget(&before, &whole_before);
     printf("%s: %zu inputs, %llu checks, %llu wrong", argv[1], input_number, (unsigned long long)checks,
            (unsigned long long)wrongs);
-    if (number + 1 == sizeof tests / sizeof *tests)
-        printf(", %ld whole runs, %ld beginnings, %ld not opened", whole_runs, beginnings, not_opened);
+    bool is_all_seen = !tests[number].tell || tests[number].tell();
     printf("\n");
-    return wrongs || !checks;
+    return wrongs || !checks || !is_all_seen;
 }

@@ -487,4 +487,7 @@ def main():
 
 
 if __name__ == "__main__":
+    from lib.usage import answer_questions
+
+    answer_questions()
     sys.exit(main())

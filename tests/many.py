@@ -35,7 +35,7 @@ sys.path[:0] = [HERE, os.path.join(HERE, "lib"), MANY, os.path.join(TOP, "bench"
 sys.dont_write_bytecode = True
 from count import Counter
 from ffi import FFI, vectors
-from library import build_library
+from library import VERSION, build_library
 from realistic import realistic
 from uses import LINTS, fault_message
 from worked import rows
@@ -367,9 +367,14 @@ def try_alone(python, room):
     os.close(main)
     wrong = differences("alone", done.stdout.decode().split("\n"), ["good\t8\t4\t-", "good\t8\t4\t-", ""])
     wrong += done.returncode != 0 or "#] 100%  2 files, 0 with a fault" not in shown
-    for more in (["none"], ["--library", "none", "good"], ["--workers", "0", "good"]):
-        done = subprocess.run([*words, *more], cwd=room, capture_output=True, timeout=PATIENCE)
-        wrong += done.returncode != 2 or done.stdout != b"" or not done.stderr or b"Traceback" in done.stderr
+    for more, wanted in (
+        ("none", "check: none: No such file or directory\n"), (".", "check: .: Is a directory\n"), ("- <&-", "check: Bad file descriptor\n"),
+        ("--library none good", "check: .*none: cannot open shared object file: No such file or directory\n"),
+        ("--workers 0 good", "usage: check (?s:.*)\ncheck: error: .*\n"),
+    ):
+        line = ["sh", "-c", f'"$@" {more}', "sh", *words]
+        done = subprocess.run(line, cwd=room, stdin=subprocess.DEVNULL, capture_output=True, text=True, timeout=PATIENCE)
+        wrong += (done.returncode, done.stdout) != (2, "") or not re.fullmatch(wanted, done.stderr)
     print(f"many: a cluster of its own and wrong calls, {wrong} wrong")
     return not wrong
 
@@ -425,16 +430,32 @@ def try_broken_off(python, room, *more):
     return not wrong
 
 
+def try_no_dask():
+    """A Python without dask.distributed: help, version and wrong words need none, and all else says that it is needed. With -E
+    and -S Python finds none."""
+    wrong = []
+    for words, status, wanted in (
+        ("--help", 0, "usage: check "), ("--version", 0, f"check (Bogzhami) {VERSION}\n"), ("", 2, "usage: check "),
+        ("--part 0 list", 2, "usage: check "), ("list", 2, "check: No module named 'dask': dask.distributed is needed "),
+    ):
+        done = subprocess.run([sys.executable, "-E", "-S", CHECK, *words.split()], capture_output=True, text=True, timeout=PATIENCE)
+        told = done.stderr if status else done.stdout
+        if done.returncode != status or not told.startswith(wanted) or "Traceback" in told:
+            wrong.append((words, done.returncode, told[-300:]))
+    print(f"many: 5 calls without dask.distributed, {len(wrong)} wrong {wrong or ''}")
+    return not wrong
+
+
 def main():
     # A program that a script starts in the background ignores interrupts, and so would those that are started here.
     signal.signal(signal.SIGINT, signal.default_int_handler)
-    python = python_with_dask()
+    good, python = [try_no_dask()], python_with_dask()
     if shutil.which("cc") is None or python is None:
         print("many: skipped: no C compiler" if python else "many: skipped: no dask.distributed (Debian: python3-distributed)")
-        return 0
+        return 0 if all(good) else 1
     build_library()
     counter = Counter(LIBRARY)
-    good = [try_faults(counter)]
+    good.append(try_faults(counter))
     with tempfile.TemporaryDirectory() as room:
         with Machines(python, room) as machines:
             good += [
@@ -452,4 +473,7 @@ def main():
 
 
 if __name__ == "__main__":
+    from lib.usage import answer_questions
+
+    answer_questions()
     sys.exit(main())

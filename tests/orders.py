@@ -10,8 +10,9 @@ and then ./package refuses what was not tested. .ci/run in a new clone has the g
 same packages of the source package.
 
 Without the kit, without a program that is needed, or in a checkout that can not be written to, each command says so in one line
-before anything is proved, and .ci/run before anything is installed. CDPATH makes no difference. The progress is
-that of the log. What needs a C compiler or git is skipped, and says so, if there is none.
+before anything is proved, and .ci/run before anything is installed. What .ci/run installs is what is lacking, and no package that
+is only recommended. CDPATH makes no difference. The progress is that of the log. What needs a C compiler or git is skipped, and
+says so, if there is none.
 """
 
 import filecmp
@@ -172,9 +173,9 @@ def try_orders(copy):
 
 def try_before(copy):
     """What needs something that is not built says what to call."""
-    found = [(copy.run("./package"), "there is no proved build: run ./test"),
-             (copy.run("uses/libyaml/build"), "run ffi/build")]
-    wrong = [told for (status, told), wanted in found if status == 0 or wanted not in told]
+    lacking = r"^There is no (ffi/out/libbogzhami\.a: run ffi/build|libyaml\.a: install libyaml-dev)\.\n$"
+    found = [(copy.run("./package"), 1, r"there is no proved build: run \./test"), (copy.run("uses/libyaml/build"), 3, lacking)]
+    wrong = [told for (status, told), wanted, pattern in found if status != wanted or not re.search(pattern, told)]
     return say(not wrong and not copy.built(), f"{len(found)} commands before anything is built, {len(wrong)} wrong {wrong or ''}")
 
 
@@ -292,6 +293,30 @@ def try_clone_without_kit(copy):
     return say(good, f".ci/run without the kit installs nothing{'' if good else told[-300:]}")
 
 
+# What .ci/run installs of Debian's packages that have a command of their own.
+PACKAGES = "gcc libc6-dev g++ git rustc cargo cmake valgrind debootstrap dpkg-dev lintian zsh fish".split()
+
+
+def try_lacking(clone):
+    """.ci/run where nothing is but the kit: it installs each package that is lacking, and none that is only recommended. What
+    stands for apt-get here installs nothing, so it ends with 1."""
+    tools, called = os.path.join(clone.room, "lacking"), os.path.join(clone.room, "installed")
+    os.makedirs(tools)
+    for name in ("bash", "dirname"):
+        os.symlink(shutil.which(name), os.path.join(tools, name))
+    for name, line in (("rt", ""), ("apt-get", f"echo \"$@\" >> '{called}'; [ \"$1\" = update ]")):
+        with open(os.path.join(tools, name), "w", encoding="ascii") as out:
+            out.write(f"#!/bin/sh\n{line}\n")
+        os.chmod(os.path.join(tools, name), 0o755)
+    status, told = clone.run("bash .ci/run", PATH=tools)
+    with open(called, encoding="ascii") as lines:
+        calls = [line.split() for line in lines]
+    wanted, names = [["update", "-q"], ["install", "-y", "-q", "--no-install-recommends"]], calls[-1][4:]
+    good = status == 1 and [words[:4] for words in calls] == wanted and set(PACKAGES) <= set(names)
+    told = "" if good else told
+    return say(good, f".ci/run installs the {len(names)} packages that are lacking, and no recommended ones{told}")
+
+
 def try_not_writable(copy):
     """A checkout that can not be written to: each command says so before anything is proved."""
     user = {"user": NOBODY} if os.geteuid() == 0 else {}
@@ -316,15 +341,33 @@ def try_words(copy):
              ("ffi/build --version", {"CDPATH": "."}, 0, r"^ffi/build \(Bogzhami\) [\d.]+\n$"),
              ("uses/libyaml/build --version", {"CDPATH": "."}, 0, r"^uses/libyaml/build \(Bogzhami\) [\d.]+\n$"),
              ("./test all", {}, 2, r"^test: there is no use for 'all'\n"), ("./run --help", {}, 0, r"^usage: \./run COMMAND"),
-             ("ffi/build --help", {"PATH": PLAIN}, 0, r"^usage: ffi/build \[--jobs N\]\n"),
-             ("ffi/build --job 1", {}, 2, r"^ffi/build: unrecognized option '--job'\nusage: ffi/build"),
-             ("ffi/build --jobs", {}, 2, r"^ffi/build: --jobs needs a word after it\nusage: ffi/build")]
+             ("ffi/build --help", {"PATH": PLAIN}, 0, r"^usage: ffi/build\n"),
+             ("ffi/build --jobs 1", {}, 2, r"^ffi/build: there is no use for '--jobs'\nusage: ffi/build"),
+             ("ffi/build --over", {}, 2, r"^ffi/build: --over needs a word after it\nusage: ffi/build"),
+             ("./run scan any", {"RT_JOBS": "0"}, 2, r"^run: RT_JOBS is no number of jobs: '0'\nusage: \./run"),
+             ("./test", {"RT_JOBS": "all"}, 2, r"^test: RT_JOBS is no number of jobs: 'all'\nusage: \./test\n"),
+             ("ffi/build", {"RT_JOBS": "-1"}, 2, r"^ffi/build: RT_JOBS is no number of jobs: '-1'\nusage: ffi/build\n"),
+             ("./dev check yaml_text", {"RT_JOBS": "1 2"}, 2, r"^RT_JOBS is no number of jobs: '1 2'\n$")]
     wrong = []
     for command, more, wanted, pattern in tried:
         status, told = copy.run(command, **more)
         if status != wanted or not re.search(pattern, told) or copy.calls():
             wrong.append((command, status, told[-300:]))
     return say(not wrong, f"{len(tried)} calls that prove nothing, {len(wrong)} wrong {wrong or ''}")
+
+
+def try_jobs(copy):
+    """How many functions are proved at once, by a variable that each command that proves reads, and by none."""
+    tried = {"./run scan any": ["check"] * 4 + ["run"], "ffi/build": ["lib"], "./dev check yaml_text": ["check"]}
+    wrong = []
+    for more, jobs in (({}, []), ({"RT_JOBS": "3"}, ["--jobs", "3"])):
+        for command, verbs in tried.items():
+            shutil.rmtree(os.path.join(copy.top, "crates", "yamltok", "out"), ignore_errors=True)
+            status, told = copy.run(command, **more)
+            called = [words.split(" -- ")[0].split() for words, _ in copy.calls()]
+            if status or called != [[verb, *jobs] for verb in verbs]:
+                wrong.append((command, more, called, told[-300:]))
+    return say(not wrong, f"{len(tried)} commands with RT_JOBS and without, {len(wrong)} wrong {wrong or ''}")
 
 
 # What rt prints, and what is shown of it.
@@ -363,11 +406,14 @@ def main():
     with tempfile.TemporaryDirectory() as room:
         make_kit(room, program)
         copy, clone = Copy(room, "copy"), Copy(room, "clone")
-        good = [try_no_kit(copy), try_clone_without_kit(clone), try_words(copy), try_not_writable(copy), try_progress(room)]
-        good += [try_blank(Copy(room, "a copy")), try_before(copy), try_orders(copy)]
+        good = [try_no_kit(copy), try_clone_without_kit(clone), try_lacking(clone), try_words(copy), try_not_writable(copy), try_progress(room)]
+        good += [try_blank(Copy(room, "a copy")), try_jobs(Copy(room, "jobs")), try_before(copy), try_orders(copy)]
         good += [try_source(copy), try_broken_compiler(copy), try_broken_off(copy), try_failing_gate(copy), try_clone(clone)]
     return 0 if all(good) else 1
 
 
 if __name__ == "__main__":
+    from lib.usage import answer_questions
+
+    answer_questions()
     sys.exit(main())

@@ -233,6 +233,7 @@ def try_statuses(program):
         "help full": (in_shell('"$@" > /dev/full', *own, "--help"), full),
         "no output": (in_shell('"$@" >&-', *own, data=long), (3, f"{name}write failed: Bad file descriptor\n")),
         "no input": (in_shell('"$@" <&-', *own), (3, f"{name}read failed: Bad file descriptor\n")),
+        "help after others": (module(["bogzhami", "any", "--help"])[0].startswith(usage), True),
         "no words": (in_shell('"$@" > /dev/full 2>&-', *own), (3, "")),
         "pipe": (broken_off(close_pipe), (3, "")),
         "writing": (broken_off(interrupt_writing), (130, "")),
@@ -242,6 +243,9 @@ def try_statuses(program):
         scan = [program, "scan", "any"]
         for key, line, words, data in (("full", '"$@" > /dev/full', scan, b"a: 1"), ("utf9", '"$@"', [program, "scan", "utf9"], b"")):
             found[f"{key} as yamltok"] = in_shell(line, *words, data=data)[0], found[key][1][0]
+    # Python itself refuses a folder, before the package begins
+    status, told = in_shell('"$@" < /', *own)
+    found["a folder"] = status in (1, 3) and "is a directory" in told.lower(), True
     wrong = {key: told for key, (told, wanted) in found.items() if told != wanted}
     print(f"python: {len(found)} exit statuses, {len(wrong)} wrong {wrong or ''}")
     return not wrong
@@ -456,16 +460,44 @@ def try_places(room):
     environment = {**ENVIRONMENT, "PYTHONPATH": room}
     del environment["BOGZHAMI_LIBRARY"]
     wanted = "".join(line + "\n" for line in lines_of(b"a: 1", ["any"])), 0
-    none = module(["bogzhami"], b"a: 1", env=environment)[1]
-    named = module(["bogzhami"], b"a: 1", env={**environment, "BOGZHAMI_LIBRARY": os.path.join(room, "none")})[1]
+    none, told = without_library(["bogzhami"], environment)
     shutil.copy(LIBRARY, os.path.join(libraries, "libbogzhami.so.1"))
     by_name = module(["bogzhami"], b"a: 1", env={**environment, "LD_LIBRARY_PATH": libraries})
     shutil.copy(LIBRARY, os.path.join(copy, "libbogzhami.so"))
     beside = module(["bogzhami"], b"a: 1", env=environment)
-    good = beside == by_name == wanted and named == 1
+    good = beside == by_name == wanted and (none == 0 or f"no libbogzhami in {copy} or among the system's" in told)
     found = "found" if good else "wrong"
-    print(f"python: the library named, beside the module and by its name: {found}; without one: status {none}")
+    print(f"python: the library beside the module and by its name: {found}; without one: status {none}")
     return good
+
+
+def without_library(words, environment):
+    """The status of a module, or of a line of Python, and what it says on standard error, or else on standard output."""
+    words = words if words[0] == "-c" else ["-m", *words]
+    done = subprocess.run([sys.executable, *words], input=b"a: 1", env=environment, capture_output=True, timeout=60)
+    return done.returncode, (done.stderr or done.stdout).decode()
+
+
+def try_no_library():
+    """Where there is no library: help, version and wrong words need none, and all else says in a line what it needs. The
+    package can be imported, and its first call raises ImportError."""
+    environment = {**ENVIRONMENT, "BOGZHAMI_LIBRARY": "/dev/null/none"}
+    name = "python3 -m bogzhami: "
+    none = r"no libbogzhami by the name that BOGZHAMI_LIBRARY has: .* ffi/build makes it, .* \(/dev/null/none: .*\)\n"
+    tried = [
+        (["bogzhami", "--help"], 0, r"usage: (?s:.*)"),
+        (["bogzhami", "--version"], 0, rf"bogzhami {bogzhami.__version__}\n"),
+        (["bogzhami", "utf9"], 2, rf"{name}no such encoding: utf9\nusage: .*\n"),
+        (["bogzhami"], 3, name + none),
+        (["-c", "import bogzhami; bogzhami.scan('a')"], 1, rf"Traceback (?s:.*)\nImportError: {none}"),
+    ]
+    wrong = []
+    for words, status, wanted in tried:
+        found, told = without_library(words, environment)
+        if found != status or not re.fullmatch(wanted, told) or "Exception ignored" in told:
+            wrong.append((words, found, told[-600:]))
+    print(f"python: {len(tried)} calls without a library, {len(wrong)} wrong {wrong or ''}")
+    return not wrong
 
 
 def try_installed(room):
@@ -812,10 +844,13 @@ def try_yamllint(every, room):
     commands = [[python, "-m", name, "-f", "parsable", path] for name in ("yamllint", "bogzhami.yamllint")]
     runs = [subprocess.run(words, env=ENVIRONMENT, capture_output=True, text=True, timeout=60) for words in commands]
     is_same = (runs[0].stdout, runs[0].returncode) == (runs[1].stdout, runs[1].returncode) and runs[0].stdout.count("\n") > 6
+    without = {**ENVIRONMENT, "BOGZHAMI_LIBRARY": "/dev/null/none"}
+    none = subprocess.run(commands[1], env=without, capture_output=True, text=True, timeout=60)
+    is_told = none.returncode == 1 and re.fullmatch("bogzhami.yamllint: no libbogzhami .*\n", none.stderr + none.stdout)
     same_tokens = sum(one[2] for one in answers)
     found = f"{same} the same messages, {words} other words, {same_tokens} the same tokens"
     print(f"python: yamllint on {len(texts)} texts: {found}, {len(wrong)} wrong {wrong[:3] or ''}")
-    return not wrong and is_same and len(answers) == len(texts) and same_tokens > 500
+    return not wrong and is_same and is_told and len(answers) == len(texts) and same_tokens > 500
 
 
 def try_no_yamllint():
@@ -865,6 +900,7 @@ def main():
             try_memory(),
             try_threads(),
             try_places(room),
+            try_no_library(),
             try_installed(room),
             try_example(),
             try_pyyaml(),
@@ -875,4 +911,7 @@ def main():
 
 
 if __name__ == "__main__":
+    from lib.usage import answer_questions
+
+    answer_questions()
     sys.exit(main())

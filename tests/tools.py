@@ -214,9 +214,9 @@ SCRIPTS = {
         "all": "there is no use for 'all'", "--for-test": "--for-test needs a folder after it",
         "--for-test /dev/null more": "there is no use for 'more'",
     }),
-    "ffi/build": ("ffi/build [--jobs N]", {
-        "all": "there is no use for 'all'", "--job 1": "unrecognized option '--job'", "--jobs": "--jobs needs a word after it",
-        "--jobs all": "there is no number of jobs 'all'",
+    "ffi/build": ("ffi/build", {
+        "all": "there is no use for 'all'", "--jsn": "there is no use for '--jsn'", "--over": "--over needs a word after it",
+        "--over /dev/null more": "there is no use for 'more'",
     }),
     "uses/libyaml/build": ("uses/libyaml/build", {"all": "there is no use for 'all'"}),
 }
@@ -224,9 +224,20 @@ SCRIPTS = {
 TAKEN = ["scan any", "scan utf8 1", "scan any 65536", "scan any 10000", "decode utf16le", "calls utf16be spk", "calls any s"]
 
 
-def call_script(script, words):
+def call_script(script, words, **how):
     """What a script says with no kit on the path, so that it proves nothing whatever it does."""
-    return call(os.path.join(TOP, script), words, TOP, env={"PATH": "/usr/bin:/bin"}, stdin=subprocess.DEVNULL)
+    return call(os.path.join(TOP, script), words, TOP, **{"env": {"PATH": "/usr/bin:/bin"}, "stdin": subprocess.DEVNULL, **how})
+
+
+def input_calls():
+    """An input that can not be read is told before the program is built."""
+    folder = os.open(TOP, os.O_RDONLY)
+    for script in ("run", "try"):
+        lost = (3, f"{script}: standard input: Is a directory\n", "")
+        yield f"{script}, a folder", call_script(script, "scan any", stdin=folder), lost
+        lost = (3, f"{script}: standard input: Bad file descriptor\n", "")
+        yield f"{script}, closed", call_script(script, "scan any", stdin=None, preexec_fn=lambda: os.close(0)), lost
+    os.close(folder)
 
 
 def script_calls():
@@ -241,7 +252,7 @@ def script_calls():
 
 
 def try_scripts():
-    found = list(script_calls())
+    found = [*script_calls(), *input_calls()]
     return say("scripts", len(found), [(words, got) for words, got, wanted in found if got != wanted])
 
 
@@ -279,4 +290,7 @@ def main():
 
 
 if __name__ == "__main__":
+    from lib.usage import answer_questions
+
+    answer_questions()
     sys.exit(main())

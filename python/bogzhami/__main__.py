@@ -1,9 +1,9 @@
 """Lists the tokens of an input, as `yamltok scan` does: python3 -m bogzhami [ENCODING [LIMIT]] < FILE
 
-ENCODING is any (as without it), utf8, utf16le or utf16be, and LIMIT is the key limit. The exit status is that of `yamltok scan`:
-0, 1 if the last line is a fault, 2 for wrong words, and 3 if a read or a write failed or there is no memory for the input. A
-line on standard error says why it is 2 or 3, but nothing is said if who reads the lines has closed the pipe. It is 130 if the
-keyboard interrupts it.
+ENCODING is any (as without it), utf8, utf16le or utf16be, and LIMIT is the key limit. The exit status is that of
+`yamltok scan`: 0, 1 if the last line is a fault, 2 for wrong words, and 3 if a read or a write failed, there is no
+memory for the input, or there is no library. A line on standard error says why it is 2 or 3, but nothing is said if who
+reads the lines has closed the pipe. It is 130 if the keyboard interrupts it.
 """
 
 import os
@@ -11,6 +11,7 @@ import sys
 from typing import Iterable, Iterator, List, Tuple
 
 from . import Encoding, Fault, Mark, Token, TokenType, __version__, scan
+from .library import LIBRARY, Missing
 
 PROGRAM = "python3 -m bogzhami"
 USAGE = f"usage: {PROGRAM} [any|utf8|utf16le|utf16be [LIMIT]] < FILE"
@@ -20,7 +21,10 @@ Lists the tokens of standard input, or those before the fault, and the fault.
 LIMIT is the key limit, 1 to 65536; without it, it is 1024.
 
   --help      prints this
-  --version   prints the version"""
+  --version   prints the version
+
+The exit status is 0; 1 if the last line is a fault; 2 for wrong words; 3 if a
+read or a write failed, there is no memory for the input, or there is no library."""
 STYLES = (None, "plain", "single", "double", "literal", "folded")
 LINES = 1000  # that are written at once
 SETTINGS = {encoding.name.lower(): encoding for encoding in Encoding}
@@ -109,11 +113,14 @@ def run(words: List[str]) -> int:
     """Does what the words ask for, and returns the exit status."""
     asked = {"-h": HELP, "--help": HELP, "--version": f"bogzhami {__version__}"}
     try:
-        if words[:1] and words[0] in asked:
-            return write_lines([(asked[words[0]], 0)])
+        told = [asked[word] for word in words if word in asked]
+        if told:
+            return write_lines([(told[0], 0)])
         settings = settings_of(words)
     except ValueError as reason:
         return refuse(2, f"{PROGRAM}: {reason}", USAGE)
+    if isinstance(LIBRARY, Missing):
+        return refuse(3, f"{PROGRAM}: {LIBRARY.words}")
     try:
         data = read_input()
     except OSError as reason:

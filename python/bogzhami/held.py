@@ -98,8 +98,8 @@ class Held:
         self._records = ctypes.create_string_buffer(SIZE * BATCH)
         self._texts = ctypes.create_string_buffer(TEXT_ROOM)
         self._answer = Answer()
-        self._refusal: Union[Refusal, MemoryError, None] = None
         status = LIBRARY.bogzhami_open(*self._input, encoding, key_limit)
+        self._refusal: Union[Refusal, MemoryError, None] = None
         if status == WRONG:
             raise ValueError(f"encoding {encoding} or key limit {key_limit}")
         if status == NO_MEMORY:

@@ -1,12 +1,14 @@
 """The shared library `libbogzhami`: where it is found, its calls and its records.
 
-`BOGZHAMI_LIBRARY` in the environment names the file, if it is set. Otherwise the library is looked for beside this file, then,
-in a checkout, where `ffi/build` puts it, and then by its name where the system keeps its libraries.
+`BOGZHAMI_LIBRARY` in the environment names the file, if it is set. Otherwise the library is looked for beside this
+file, then, in a checkout, where `ffi/build` puts it, and then by its name where the system keeps its libraries. Where
+there is none, the package can be imported, and its first call of the library raises an ImportError that says where it
+was looked for.
 """
 
 import ctypes
 import os
-from typing import Iterator, List
+from typing import Any, Iterator, List, Union
 
 NAMES = ("libbogzhami.so.1", "libbogzhami.so")
 
@@ -62,34 +64,50 @@ class Answer(ctypes.Structure):
     ]
 
 
+class Missing:
+    """Stands for the library where there is none. Whoever wants a call of it gets an ImportError that says why."""
+
+    def __init__(self, words: str) -> None:
+        self.words = words
+
+    def __getattr__(self, name: str) -> Any:
+        raise ImportError(self.words)
+
+
+def folders() -> List[str]:
+    """The folders that the library may be in: that of this file and, in a checkout, that where `ffi/build` puts it."""
+    here = os.path.dirname(os.path.abspath(__file__))
+    ffi = os.path.join(os.path.dirname(os.path.dirname(here)), "ffi")
+    return [here, os.path.join(ffi, "out")] if os.path.exists(os.path.join(ffi, "bogzhami.h")) else [here]
+
+
 def paths() -> Iterator[str]:
     """The files that may be the library, the first one first. A name without a folder is left to the system."""
     named = os.environ.get("BOGZHAMI_LIBRARY")
     if named:
         yield named
         return
-    here = os.path.dirname(os.path.abspath(__file__))
-    places = [os.path.join(folder, name) for folder in (here, *made_in_checkout(here)) for name in NAMES]
-    yield from filter(os.path.exists, places)
+    yield from filter(os.path.exists, (os.path.join(folder, name) for folder in folders() for name in NAMES))
     yield from NAMES
 
 
-def made_in_checkout(here: str) -> List[str]:
-    """The folder where `ffi/build` puts the library, if this is the package of a checkout."""
-    ffi = os.path.join(os.path.dirname(os.path.dirname(here)), "ffi")
-    return [os.path.join(ffi, "out")] if os.path.exists(os.path.join(ffi, "bogzhami.h")) else []
+def looked_in() -> str:
+    """Where the library was looked for, in words."""
+    if os.environ.get("BOGZHAMI_LIBRARY"):
+        return "by the name that BOGZHAMI_LIBRARY has"
+    return f"in {', in '.join(folders())} or among the system's"
 
 
-def load() -> ctypes.CDLL:
-    """The first library that can be loaded. ImportError says why each could not."""
+def load() -> Union[ctypes.CDLL, Missing]:
+    """The first library that can be loaded, or what says why none can."""
     reasons = []
     for path in paths():
         try:
             return declared(ctypes.CDLL(path))
         except (OSError, AttributeError) as reason:
-            reasons.append(f"{path}: {reason}")
-    words = "no libbogzhami: in a checkout ffi/build makes it, and BOGZHAMI_LIBRARY may name its file"
-    raise ImportError("\n".join([words, *reasons]))
+            reasons.append(str(reason))
+    made = "in a checkout ffi/build makes it, and BOGZHAMI_LIBRARY may name its file"
+    return Missing(f"no libbogzhami {looked_in()}: {made} ({'; '.join(reasons)})")
 
 
 def declared(library: ctypes.CDLL) -> ctypes.CDLL:

@@ -17,7 +17,10 @@ def main() -> None:
 
     yaml.BaseLoader = BaseLoader
     sys.argv[0] = "yamllint"
-    cli.run()
+    try:
+        cli.run()
+    except ImportError as reason:  # there is no library
+        sys.exit(f"bogzhami.yamllint: {reason}")
 
 
 if __name__ == "__main__":

@@ -278,6 +278,9 @@ def is_chosen(name, names):
 
 
 def main(words):
+    if words[:1] in (["-h"], ["--help"]):
+        print(__doc__)
+        return 0
     if words[:1] == ["--twin"]:
         return prove_twins(words[1:])
     if words[:1] == ["--compile"]:

@@ -19,9 +19,34 @@ SHARED = ["-L", os.path.join(FFI, "out"), "-lbogzhami", "-Wl,-rpath," + os.path.
 CHECK = ["valgrind", "-q", "--error-exitcode=99", "--leak-check=full"]
 VALGRIND = [*CHECK, "--show-leak-kinds=all", "--errors-for-leak-kinds=all"]
 
-# The tests of held.c, and how many inputs are left out between two that each gets: alone, and under valgrind.
+# Of which inputs of the vectors a test of held.c gets one: every input, every fifth. `inputs_of_tests` has the other tests.
 TESTS = {"batches": 1, "rooms": 1, "prefixes": 1, "peeks": 1, "turns": 1, "threads": 50, "statuses": 50, "refused": 200}
-CHECKED = {"prefixes": 400, "peeks": 400, "turns": 400, "threads": 2000, "statuses": 1000, "refused": 4000}
+TESTS.update({"sizes": 5, "closes": 5, "pairs": 5})
+# Of how many of its inputs a test gets one under valgrind. With the address sanitizer it gets ten times as many.
+CHECKED = {"prefixes": 400, "peeks": 400, "turns": 400, "threads": 40, "statuses": 20, "refused": 20}
+CHECKED.update({"sizes": 40, "closes": 40, "pairs": 80, "refusals": 5, "needs": 40})
+
+# The kinds of inputs whose requests for memory are refused one by one: each has an expected line of which this is true.
+KINDS = {
+    "tags": lambda line: line.startswith("TAG "),
+    "directives": lambda line: line.startswith(("TAG-DIRECTIVE ", "VERSION-DIRECTIVE ")),
+    "names": lambda line: line.startswith(("ANCHOR ", "ALIAS ")),
+    "flow": lambda line: line.startswith("FLOW-"),
+    "block": lambda line: line.startswith("BLOCK-"),
+    "block scalars": lambda line: line.startswith("SCALAR ") and line.split(" ")[3] in ("literal", "folded"),
+    "quoted scalars": lambda line: line.startswith("SCALAR ") and line.split(" ")[3] in ("single", "double"),
+    "UTF-16": lambda line: line.startswith("STREAM-START ") and line.split(" ")[3] in ("UTF16LE", "UTF16BE"),
+    "faults of the reader": lambda line: line.startswith("FAULT reader "),
+    "faults of the scanner": lambda line: line.startswith("FAULT scanner "),
+}
+EACH_KIND = 10  # so many inputs of each kind
+
+# Inputs whose texts have one of these lengths, on each side of the length up to which the library uses a text's room again.
+LENGTHS = [1, 2, 15, 16, 17, 1000, 4095, 4096, 4097, 70_000]
+LONG_TEXTS = [
+    "{0}", "'{0}'", '"{0}\\t"', "|\n {0}\n", ">\n {0}\n", "[{0}, '{0}', {{{0}: {0}}}]", "- *{0}\n- &{0} '{0}'\n", "!{0} a",
+    "!e!{0} &{0} {0}", "!<{0}> [*{0}]", "%TAG !{0}! tag:{0}\n--- !{0}!{0} {0}\n", "{0}: {0}\n", '- {0}\n- "{0}', "{0} &{0} @",
+]
 
 LONG = 100_000_000  # bytes of an input that is scanned in batches of 256
 MOST_GROWTH = 1000  # kilobytes that this may take besides the input
@@ -37,14 +62,47 @@ def packed(rows):
     return b"".join(made)
 
 
+def of_kind(rows, kind):
+    """So many inputs of a kind, from the longest to the shortest."""
+    found = sorted((row for row in rows if any(map(kind, row[2]))), key=lambda row: len(row[1]), reverse=True)
+    return found[:: len(found) // EACH_KIND][:EACH_KIND]
+
+
+def long_texts():
+    """An input for each length, each place of a text and each of two encodings."""
+    for text in (one.format("x" * length) for length in LENGTHS for one in LONG_TEXTS):
+        yield ["any", "65536"], text.encode("ascii"), None
+        yield ["utf16le", "65536"], text.encode("utf-16-le"), None
+
+
+def inputs_of_tests(rows, small):
+    """The inputs that each test of held.c gets, of the vectors, of some small inputs, and of those that are made here."""
+    inputs = {name: rows[::step] for name, step in TESTS.items()}
+    inputs["nothing"] = [row for row in rows if not row[1]]
+    inputs["refusals"] = [row for kind in KINDS.values() for row in of_kind(rows, kind)]
+    inputs["refusals"] += [(["any"], data, None) for data in small]
+    inputs["needs"] = [*long_texts(), *rows[::10]]
+    return inputs
+
+
+BUILD = ["cc", "-std=c11", "-Wall", "-Wextra", "-Wpedantic", "-Werror", "-O2", "-pthread", "-I", FFI]
+BUILD += [os.path.join(HERE, "held.c"), *WRAPPED]
+STATIC = [os.path.join(FFI, "out", "libbogzhami.a")]
+
+
 def build_held(room):
     """Builds held.c with the static library and with the shared one."""
-    words = ["cc", "-std=c11", "-Wall", "-Wextra", "-Wpedantic", "-Werror", "-O2", "-pthread", "-I", FFI]
-    words += [os.path.join(HERE, "held.c"), *WRAPPED]
     programs = [os.path.join(room, name) for name in ("held", "held_shared")]
-    for program, link in zip(programs, [[os.path.join(FFI, "out", "libbogzhami.a")], SHARED]):
-        subprocess.run([*words, *link, "-o", program], check=True)
+    for program, link in zip(programs, [STATIC, SHARED]):
+        subprocess.run([*BUILD, *link, "-o", program], check=True)
     return programs
+
+
+def build_sanitized(room):
+    """Builds held.c with the address sanitizer; None if the compiler has none."""
+    program = os.path.join(room, "held_sanitized")
+    done = subprocess.run([*BUILD, *STATIC, "-g", "-fsanitize=address", "-o", program], capture_output=True)
+    return program if done.returncode == 0 else None
 
 
 def build_rust(text, path):
@@ -73,27 +131,40 @@ def try_rust(room, rows):
     return all(good for _, good in ends)
 
 
-def try_tests(programs, rows):
-    nothing = [row for row in rows if not row[1]]
-    jobs = [([programs[0], name], packed(rows[::step])) for name, step in TESTS.items()]
-    jobs += [([programs[0], "nothing"], packed(nothing)), ([programs[1], "batches"], packed(rows))]
+def try_tests(programs, rows, inputs):
+    jobs = [([programs[0], name], packed(given)) for name, given in inputs.items()]
+    jobs.append(([programs[1], "batches"], packed(rows)))
     with ThreadPoolExecutor(max_workers=os.cpu_count()) as pool:
         ends = list(pool.map(lambda job: run_test(*job), jobs))
     for (words, _), (told, _) in zip(jobs, ends):
         print(f"ffi: {os.path.basename(words[0])} {told}")
-    return all(good for _, good in ends) and len(nothing) > 10
+    is_enough = len(inputs["nothing"]) > 10 and len(inputs["refusals"]) > len(KINDS) * EACH_KIND
+    return all(good for _, good in ends) and is_enough
 
 
-def try_valgrind(program, rows):
-    if shutil.which("valgrind") is None:
-        print("ffi: held under valgrind skipped: no valgrind")
-        return True
-    jobs = [([*VALGRIND, program, name], packed(rows[::step])) for name, step in CHECKED.items()]
+def try_checked(words, inputs, under, times=1):
+    """Runs tests under what finds wrong uses of memory, with so many times the inputs that CHECKED says."""
+    jobs = [([*words, name], packed(inputs[name][:: max(1, step // times)])) for name, step in CHECKED.items()]
     with ThreadPoolExecutor(max_workers=os.cpu_count()) as pool:
         ends = list(pool.map(lambda job: run_test(*job), jobs))
     for told, good in ends:
-        print(f"ffi: held under valgrind, {told if good else told[-2000:]}")
+        print(f"ffi: held under {under}, {told if good else told[-2000:]}")
     return all(good for _, good in ends)
+
+
+def try_valgrind(program, inputs):
+    if shutil.which("valgrind") is None:
+        print("ffi: held under valgrind skipped: no valgrind")
+        return True
+    return try_checked([*VALGRIND, program], inputs, "valgrind")
+
+
+def try_sanitized(room, inputs):
+    program = build_sanitized(room)
+    if program is None:
+        print("ffi: held under the address sanitizer skipped: the compiler has none")
+        return True
+    return try_checked([program], inputs, "the address sanitizer", 10)
 
 
 def try_long(program):

@@ -21,6 +21,8 @@ FIRST_TOKEN = {"NO": "NO-TOKEN"}
 STATUSES = ["done", "the input has a fault", "no such encoding or key limit", "out of memory", "all tokens were given",
             "a text is longer than the room for texts", "the handle holds no scanner", "unknown"]
 
+RUST = "list_rs"  # the name that list.rs is built by
+
 USAGE = "usage: {0} [any|utf8|utf16le|utf16be [LIMIT]] < FILE    (LIMIT is 1 to 65536)\n"
 
 # Wrong words, and what is said of them before the line of the usage.
@@ -85,11 +87,15 @@ def unread_pipe():
 def ends(program, room):
     """Uses of an example: its status and what it says, and what these should be."""
     name = os.path.basename(program)
+    listed = "STREAM-START 0:0:0 0:0:0 UTF8\nSTREAM-END 0:0:0 0:0:0\n"
     for words, wrong in WRONG_WORDS.items():
         yield words, call(program, words), (2, f"{name}: {wrong}\n{USAGE.format(name)}", "")
     folder = os.open(room, os.O_RDONLY)
     yield "a folder", call(program, stdin=folder), (3, f"{name}: standard input: Is a directory\n", "")
     os.close(folder)
+    # Rust's standard library opens /dev/null in its place
+    closed = (0, "", listed) if name == RUST else (3, f"{name}: standard input: Bad file descriptor\n", "")
+    yield "a closed input", call(program, stdin=None, preexec_fn=lambda: os.close(0)), closed
     with open("/dev/full", "wb") as full:
         yield "a full disk", call(program, stdout=full), (3, f"{name}: standard output: No space left on device\n", None)
     # whoever started it may have it ignore the signal of a closed pipe, or may not
@@ -103,7 +109,6 @@ def ends(program, room):
         is_whole = re.match(rf"usage: {name} \[ENC \[LIMIT\]\] < FILE\n\nLists .*  -h, --help .* --version .*status", said, re.S)
         yield words, (status, told, bool(is_whole)), (0, "", True)
     yield "--version", call(program, "any --version"), (0, "", f"{name} (Bogzhami) {VERSION}\n")
-    listed = "STREAM-START 0:0:0 0:0:0 UTF8\nSTREAM-END 0:0:0 0:0:0\n"
     yield "all right", call(program, "any -- 65536"), (0, "", listed)
 
 

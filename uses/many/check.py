@@ -36,6 +36,36 @@ sys.dont_write_bytecode = True
 import count
 from count import FILE_WEIGHT, Entry, Part, joined, member_name, scan_part, unread_line
 
+TOP = os.path.join(HERE, "..", "..")
+LIBRARY = os.path.join(TOP, "ffi", "out", "libbogzhami.so")
+
+
+def version():
+    """The version of the checkout that this file is in."""
+    try:
+        with open(os.path.join(TOP, "VERSION"), encoding="ascii") as text:
+            return text.read().strip()
+    except OSError:
+        return "unknown"
+
+
+def arguments():
+    parser = argparse.ArgumentParser(prog="check", description="Scans the YAML files that a list names.")
+    parser.add_argument("--scheduler", metavar="ADDRESS", help="of dask.distributed, as tcp://HOST:8786; without it, a cluster here")
+    parser.add_argument("--workers", metavar="N", type=int, help="of the cluster here: as many as there are processors, if not given")
+    parser.add_argument("--part", metavar="MB", type=float, default=64, help="the most that a worker gets at a time (64)")
+    parser.add_argument("--library", metavar="FILE", type=os.path.abspath, default=LIBRARY, help="libbogzhami.so (that of ffi/out)")
+    parser.add_argument("--version", action="version", version=f"check (Bogzhami) {version()}", help="print the version")
+    parser.add_argument("list", metavar="LIST", help="a file with a path a line, or -")
+    words = parser.parse_args()
+    if words.part <= 0 or words.workers is not None and words.workers < 1:
+        parser.error("a part has more than 0 MB, and a cluster at least one worker")
+    return words
+
+
+if __name__ == "__main__":
+    WORDS = arguments()  # before what may be missing is imported
+
 try:
     import dask.config
     from distributed import Client, KilledWorker, LocalCluster, WorkerPlugin, get_worker
@@ -44,7 +74,6 @@ except ImportError as lacking:
     sys.stderr.write(f"check: {lacking}: dask.distributed is needed (Debian: python3-distributed, for /usr/bin/python3)\n")
     sys.exit(2)
 
-LIBRARY = os.path.join(HERE, "..", "..", "ffi", "out", "libbogzhami.so")
 ARCHIVES = (b".tar", b".tar.gz", b".tgz", b".tar.bz2", b".tbz2", b".tar.xz", b".txz")
 MEGABYTE = 1_000_000
 SAMPLE = 256  # the system is asked for the size of about so many files, to guess how long all are
@@ -347,19 +376,6 @@ def begin_client(words, begun):
     return begun.enter_context(Client(cluster))
 
 
-def arguments():
-    parser = argparse.ArgumentParser(prog="check", description="Scans the YAML files that a list names.")
-    parser.add_argument("--scheduler", metavar="ADDRESS", help="of dask.distributed, as tcp://HOST:8786; without it, a cluster here")
-    parser.add_argument("--workers", metavar="N", type=int, help="of the cluster here: as many as there are processors, if not given")
-    parser.add_argument("--part", metavar="MB", type=float, default=64, help="the most that a worker gets at a time (64)")
-    parser.add_argument("--library", metavar="FILE", type=os.path.abspath, default=LIBRARY, help="libbogzhami.so (that of ffi/out)")
-    parser.add_argument("list", metavar="LIST", help="a file with a path a line, or -")
-    words = parser.parse_args()
-    if words.part <= 0 or words.workers is not None and words.workers < 1:
-        parser.error("a part has more than 0 MB, and a cluster at least one worker")
-    return words
-
-
 def scan_list(words, cut):
     """Scans what a list names, and returns the exit status."""
     with contextlib.ExitStack() as begun:
@@ -373,8 +389,12 @@ def scan_list(words, cut):
     return 2 if found.unread else 1 if found.faults else 0
 
 
-def main():
-    words = arguments()
+def told_of(wrong):
+    """What an error of the system is about, if that has a name, and what it is."""
+    return f"{wrong.filename}: {wrong.strerror}" if isinstance(wrong.filename, str) else wrong.strerror or wrong
+
+
+def main(words):
     logging.disable(logging.CRITICAL)  # what dask.distributed would say of workers and schedulers that end
     dask.config.set(NO_CHARTS)
     try:
@@ -392,9 +412,9 @@ def main():
     except KeyboardInterrupt:
         return INTERRUPTED
     except OSError as wrong:
-        sys.stderr.write(f"check: {wrong}\n")
+        sys.stderr.write(f"check: {told_of(wrong)}\n")
     return 2
 
 
 if __name__ == "__main__":
-    sys.exit(main())
+    sys.exit(main(WORDS))

@@ -92,6 +92,8 @@ impl<W: Write> yaml_token_sink_t for lister_t<'_, W> {
 
     ghost within = { λ _. Unit {0} };
 
+    ghost lacks = { λ s count texts. Unit {0} };
+
     fn put(&mut self, token: yaml_token_t) -> Result<(), AllocError> {
         self.left = room_after(self.left, &token);
         if self.written.is_ok() {

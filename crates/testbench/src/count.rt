@@ -57,6 +57,8 @@ impl yaml_token_sink_t for tally_t {
 
     ghost within = { λ _. Unit {0} };
 
+    ghost lacks = { λ s count texts. Unit {0} };
+
     fn put(&mut self, token: yaml_token_t) -> Result<(), AllocError> {
         self.count.take(&token);
         self.room = self.room.saturating_sub(1);

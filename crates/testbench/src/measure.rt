@@ -156,6 +156,8 @@ impl yaml_token_sink_t for counter_t {
 
     ghost within = { λ _. Unit {0} };
 
+    ghost lacks = { λ s count texts. Unit {0} };
+
     #[inline(always)]
     fn put(&mut self, _token: yaml_token_t) -> Result<(), AllocError> {
         self.tokens = self.tokens.wrapping_add(1);

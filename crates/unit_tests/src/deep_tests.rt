@@ -44,6 +44,8 @@ impl yaml_token_sink_t for count_t {
 
     ghost within = { λ _. Unit {0} };
 
+    ghost lacks = { λ s count texts. Unit {0} };
+
     fn put(&mut self, _token: yaml_token_t) -> Result<(), AllocError> {
         self.tokens = self.tokens.wrapping_add(1);
         Ok(())

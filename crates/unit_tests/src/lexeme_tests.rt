@@ -5,7 +5,8 @@ use std::test::Fail;
 use yaml_lexeme::{
     yaml_context_t, yaml_decider_at, yaml_gap, yaml_lexeme_at, yaml_lexeme_fault, yaml_lexeme_kind,
     yaml_lexeme_kind_t, yaml_lexeme_t, yaml_read_block, yaml_read_character, yaml_read_lexeme,
-    yaml_read_name, yaml_read_plain, yaml_read_quoted, yaml_read_tag, yaml_refusal_t, yaml_spot_t,
+    yaml_read_name, yaml_read_plain, yaml_read_quoted, yaml_read_stream_end, yaml_read_tag,
+    yaml_refusal_t, yaml_spot_t,
 };
 use yaml_text::{
     unnamed_yaml_token_t_data, yaml_decode, yaml_encoding_t, yaml_error_type_t, yaml_fault_t,
@@ -299,6 +300,20 @@ fn character_read(alloc: Global, bytes: &[u8], in_flow: bool) -> Result<String, 
     }
 }
 
+/// The stream end after the first bytes of a text.
+fn stream_end_read(alloc: Global, bytes: &[u8], index: usize) -> Result<String, Fail> {
+    let Ok(text) = yaml_decode(alloc, bytes, ANY) else {
+        return Err("refused".into());
+    };
+    if !yaml_is_place(&text, index) {
+        return Err("no place".into());
+    }
+    show_lexeme(
+        alloc,
+        &yaml_read_stream_end(&text, yaml_mark_at(&text, index)),
+    )
+}
+
 /// The kind at the front of a text, if it may decide there whether a scalar before it is a key.
 fn decider_at(
     alloc: Global,
@@ -327,7 +342,11 @@ fn expect_rows(
 #[test]
 fn gaps(rt: HostRuntime) -> Result<(), Fail> {
     let alloc = rt.alloc();
-    let gaps: [(&str, bool, bool, &str); 5] = [
+    let gaps: [(&str, bool, bool, &str); 9] = [
+        ("\r\n  x", false, false, "4:1:2 true"),
+        ("\r\n\tx", false, false, "2:1:0 true"),
+        ("\r\n  #c\r\nx", false, false, "8:2:0 true"),
+        ("\r\n", true, true, "2:1:0 true"),
         ("\t#c\n  x", false, false, "6:1:2 true"),
         ("\t#c\n  x", false, true, "0:0:0 false"),
         ("\n\tx", false, false, "1:1:0 true"),
@@ -558,6 +577,118 @@ fn plain_scalars(rt: HostRuntime) -> Result<(), Fail> {
 }
 
 #[test]
+fn plain_scalars_before_lines(rt: HostRuntime) -> Result<(), Fail> {
+    let rows: [(&str, u64, Option<u64>, &str); 9] = [
+        ("a\n]", 1, None, "plain 61 0:0:0 1:0:1 2:1:0 true"),
+        ("a\n  }", 1, Some(3), "plain 61 0:0:0 1:0:1 4:1:2 true"),
+        ("a\n ,b", 1, None, "plain 61 0:0:0 1:0:1 3:1:1 true"),
+        ("a\n [b", 2, None, "plain 61 0:0:0 1:0:1 3:1:1 true"),
+        ("a\n\n ]", 1, None, "plain 61 0:0:0 1:0:1 4:2:1 true"),
+        ("a\nb]", 1, None, "plain 612062 0:0:0 3:1:1 3:1:1 false"),
+        ("a\n b", 0, Some(1), "plain 61 0:0:0 1:0:1 3:1:1 true"),
+        ("a\n  b", 0, Some(1), "plain 612062 0:0:0 5:1:3 5:1:3 false"),
+        ("a\n ]", 0, None, "plain 61205d 0:0:0 4:1:2 4:1:2 false"),
+    ];
+    expect_rows(&rt, rt.alloc(), &rows)
+}
+
+#[test]
+fn plain_scalars_before_blanks(rt: HostRuntime) -> Result<(), Fail> {
+    let rows: [(&str, u64, Option<u64>, &str); 14] = [
+        ("a  # c", 0, None, "plain 61 0:0:0 1:0:1 3:0:3 false"),
+        ("a \t: b", 0, None, "plain 61 0:0:0 1:0:1 3:0:3 false"),
+        ("a :b", 0, None, "plain 61203a62 0:0:0 4:0:4 4:0:4 false"),
+        ("a - b", 0, None, "plain 61202d2062 0:0:0 5:0:5 5:0:5 false"),
+        ("a \t,b", 1, None, "plain 61 0:0:0 1:0:1 3:0:3 false"),
+        ("a  \nb", 0, Some(0), "plain 61 0:0:0 1:0:1 4:1:0 true"),
+        ("a \t\n# c", 0, None, "plain 61 0:0:0 1:0:1 4:1:0 true"),
+        ("a\r\nb", 0, Some(0), "plain 61 0:0:0 1:0:1 3:1:0 true"),
+        ("a \r\n ]", 1, None, "plain 61 0:0:0 1:0:1 5:1:1 true"),
+        ("a\rb", 0, Some(0), "plain 61 0:0:0 1:0:1 2:1:0 true"),
+        ("a\r\n", 0, None, "plain 61 0:0:0 1:0:1 3:1:0 true"),
+        ("a \r", 0, None, "plain 61 0:0:0 1:0:1 3:1:0 true"),
+        (
+            "a \r\n  b",
+            0,
+            Some(1),
+            "plain 612062 0:0:0 7:1:3 7:1:3 false",
+        ),
+        (
+            "a\r\n\r\n b",
+            0,
+            None,
+            "plain 610a62 0:0:0 7:2:2 7:2:2 false",
+        ),
+    ];
+    expect_rows(&rt, rt.alloc(), &rows)
+}
+
+/// So many times a letter.
+fn push_letters(text: &mut String, letter: &str, count: u64) -> Result<(), Fail> {
+    for _ in 0..count {
+        text.push_str(letter)?;
+    }
+    Ok(())
+}
+
+/// Compares a plain scalar of x, a break or one character, and y with what is wanted. `kept` is what the scalar keeps
+/// of what is between.
+fn expect_between(
+    rt: &impl Abort,
+    alloc: Global,
+    row: (&str, &str, bool),
+    sizes: (u64, u64),
+) -> Result<(), Fail> {
+    let (between, kept, broken) = row;
+    let (front, back) = sizes;
+    let (mut text, mut value) = (String::new(alloc), String::new(alloc));
+    push_letters(&mut text, "x", front)?;
+    push_letters(&mut value, "x", front)?;
+    text.push_str(between)?;
+    value.push_str(kept)?;
+    push_letters(&mut text, "y", back)?;
+    push_letters(&mut value, "y", back)?;
+    let shown = lexed(alloc, text.as_bytes(), 0, None)?;
+    let index = text.as_bytes().len();
+    let (line, column) = if broken {
+        (1, back)
+    } else {
+        (0, front.saturating_add(back).saturating_add(1))
+    };
+    let bytes = show_bytes(alloc, value.as_bytes())?;
+    let bytes = bytes.as_str();
+    let end = format!(in alloc; "{index}:{line}:{column}")?;
+    let end = end.as_str();
+    let want = format!(in alloc; "plain {bytes} 0:0:0 {end} {end} false")?;
+    assert_eq!(rt; shown.as_str(), want.as_str(), "{front} {back}");
+    Ok(())
+}
+
+#[test]
+fn first_bytes_of_breaks_at_each_place(rt: HostRuntime) -> Result<(), Fail> {
+    let rows: [(&str, &str, bool); 10] = [
+        ("\n", " ", true),
+        ("\r", " ", true),
+        ("\r\n", " ", true),
+        ("\u{85}", " ", true),
+        ("\u{2028}", "\u{2028}", true),
+        ("\u{2029}", "\u{2029}", true),
+        ("\u{a9}", "\u{a9}", false),
+        ("\u{201c}", "\u{201c}", false),
+        ("\u{202a}", "\u{202a}", false),
+        ("\u{2128}", "\u{2128}", false),
+    ];
+    for row in rows {
+        for front in 1..36u64 {
+            for back in [1u64, 12, 13, 14, 15, 16, 17, 33] {
+                expect_between(&rt, rt.alloc(), row, (front, back))?;
+            }
+        }
+    }
+    Ok(())
+}
+
+#[test]
 fn block_headers(rt: HostRuntime) -> Result<(), Fail> {
     let rows: [(&str, u64, Option<u64>, &str); 9] = [
         ("|", 0, None, "literal - 0:0:0 1:0:1 1:0:1 false"),
@@ -674,6 +805,113 @@ fn block_values(rt: HostRuntime) -> Result<(), Fail> {
 }
 
 /// Anchors and aliases.
+/// Compares a literal and a folded scalar with what is wanted: a line of x, then what is between, then y up to a line
+/// feed. Of what is between the literal one keeps `kept`, and the folded one `folded`.
+fn expect_lines(
+    rt: &impl Abort,
+    alloc: Global,
+    row: (&str, &str, &str, u64),
+    sizes: (u64, u64),
+) -> Result<(), Fail> {
+    let (between, kept, folded, line) = row;
+    let (front, back) = sizes;
+    for (sign, name, kept) in [("|", "literal", kept), (">", "folded", folded)] {
+        let (mut text, mut value) = (String::new(alloc), String::new(alloc));
+        text.push_str(sign)?;
+        text.push_str("\n ")?;
+        push_letters(&mut text, "x", front)?;
+        push_letters(&mut value, "x", front)?;
+        text.push_str(between)?;
+        value.push_str(kept)?;
+        push_letters(&mut text, "y", back)?;
+        push_letters(&mut value, "y", back)?;
+        text.push_str("\n")?;
+        value.push_str("\n")?;
+        let shown = lexed(alloc, text.as_bytes(), 0, None)?;
+        let index = text.as_bytes().len();
+        let bytes = show_bytes(alloc, value.as_bytes())?;
+        let bytes = bytes.as_str();
+        let end = format!(in alloc; "{index}:{line}:0")?;
+        let end = end.as_str();
+        let want = format!(in alloc; "{name} {bytes} 0:0:0 {end} {end} false")?;
+        assert_eq!(rt; shown.as_str(), want.as_str(), "{front} {back}");
+    }
+    Ok(())
+}
+
+#[test]
+fn block_lines_of_each_length(rt: HostRuntime) -> Result<(), Fail> {
+    let rows: [(&str, &str, &str, u64); 13] = [
+        ("\n ", "\n", " ", 3),
+        ("\r ", "\n", " ", 3),
+        ("\r\n ", "\n", " ", 3),
+        ("\u{85} ", "\n", " ", 3),
+        ("\u{2028} ", "\u{2028}", "\u{2028}", 3),
+        ("\u{2029} ", "\u{2029}", "\u{2029}", 3),
+        ("\n\n ", "\n\n", "\n", 4),
+        ("\r\n\r\n ", "\n\n", "\n", 4),
+        ("\n\u{2028}\n ", "\n\u{2028}\n", "\u{2028}\n", 5),
+        ("\u{a9}", "\u{a9}", "\u{a9}", 2),
+        ("\u{201c}", "\u{201c}", "\u{201c}", 2),
+        ("\u{202a}", "\u{202a}", "\u{202a}", 2),
+        ("\u{2128}", "\u{2128}", "\u{2128}", 2),
+    ];
+    for row in rows {
+        for front in 1..67u64 {
+            for back in [1u64, 15, 16, 17, 64] {
+                expect_lines(&rt, rt.alloc(), row, (front, back))?;
+            }
+        }
+    }
+    Ok(())
+}
+
+#[test]
+fn ends_of_block_scalars(rt: HostRuntime) -> Result<(), Fail> {
+    let rows: [(&str, u64, Option<u64>, &str); 9] = [
+        ("|+\n a", 0, None, "literal 61 0:0:0 5:1:2 5:1:2 false"),
+        ("|+\n a\r", 0, None, "literal 610a 0:0:0 6:2:0 6:2:0 false"),
+        (
+            "|+\n a\r\n",
+            0,
+            None,
+            "literal 610a 0:0:0 7:2:0 7:2:0 false",
+        ),
+        (
+            "|+\n a\u{85}",
+            0,
+            None,
+            "literal 610a 0:0:0 7:2:0 7:2:0 false",
+        ),
+        (
+            "|+\n a\u{2028}",
+            0,
+            None,
+            "literal 61e280a8 0:0:0 8:2:0 8:2:0 false",
+        ),
+        (
+            "|+\n a\r\n\r\n",
+            0,
+            None,
+            "literal 610a0a 0:0:0 9:3:0 9:3:0 false",
+        ),
+        (
+            "|+\n a\n\u{2028}\n",
+            0,
+            None,
+            "literal 610ae280a80a 0:0:0 10:4:0 10:4:0 false",
+        ),
+        ("|-\n a\n\n", 0, None, "literal 61 0:0:0 7:3:0 7:3:0 false"),
+        (
+            ">\n a\r\n\n",
+            0,
+            None,
+            "folded 610a 0:0:0 7:3:0 7:3:0 false",
+        ),
+    ];
+    expect_rows(&rt, rt.alloc(), &rows)
+}
+
 #[test]
 fn names(rt: HostRuntime) -> Result<(), Fail> {
     let rows: [(&str, u64, Option<u64>, &str); 11] = [
@@ -1139,6 +1377,22 @@ fn refusal_of_memory(rt: HostRuntime) -> Result<(), Fail> {
     let memory = yaml_refusal_t::MEMORY;
     let fault = yaml_lexeme_fault(memory, yaml_lexeme_kind_t::PLAIN, FRONT, FRONT);
     assert!(rt; fault.error == yaml_error_type_t::YAML_MEMORY_ERROR);
+    Ok(())
+}
+
+/// The stream end is at the start of a line: that of the end, or the next one.
+#[test]
+fn stream_ends_read(rt: HostRuntime) -> Result<(), Fail> {
+    let alloc = rt.alloc();
+    let rows: [(&str, usize, &str); 3] = [
+        ("", 0, "end 0:0:0 0:0:0 0:0:0 false"),
+        ("a", 1, "end 1:1:0 1:1:0 1:1:0 false"),
+        ("a\n", 2, "end 2:1:0 2:1:0 2:1:0 false"),
+    ];
+    for (text, index, want) in rows {
+        let shown = stream_end_read(alloc, text.as_bytes(), index)?;
+        assert_eq!(rt; shown.as_str(), want, "{text}");
+    }
     Ok(())
 }
 

@@ -9,6 +9,8 @@ mod all_tests;
 #[cfg(test)]
 mod deep_tests;
 #[cfg(test)]
+mod kept_tests;
+#[cfg(test)]
 mod lexeme_tests;
 #[cfg(test)]
 mod parser_tests;

@@ -97,6 +97,8 @@ impl yaml_token_sink_t for batch_t {
 
     ghost within = { λ _. Unit {0} };
 
+    ghost lacks = { λ s count texts. Unit {0} };
+
     #[inline(always)]
     fn put(&mut self, token: yaml_token_t) -> Result<(), AllocError> {
         self.digest.put_given(&token);

@@ -1,210 +1,60 @@
--- Tokens that are given one by one make a batch.
-use Rattle.std.proofs.Common.{◌≡◌, ◌++◌, ◌∷◌, [], ℕ, ◌+◌, ◌-◌, ◌≤◌, ◌<◌, ◌^◌, Bool, true, false, List, Option, Some, None, length, refl, ap, sym, ◌∙◌, subst, arith, inl, inr, append-nil, length-append, append_assoc}
-use Rattle.std.specs.Prelude.{if◌then◌else◌, ◌≢◌}
-use Rattle.std.proofs.lemmas.List.{append_cancel_left, length_push}
+-- Tokens that are given to two rooms make a batch.
+use Rattle.std.proofs.Common.{◌≡◌, ◌++◌, ◌∷◌, [], ◌⊎◌, ℕ, ◌+◌, ◌≤◌, ◌<◌, Bool, true, false, List, Option, Some, None, length, refl, ap, sym, ◌∙◌, subst, arith, inl, inr, append-nil}
 use Rattle.yaml_text.specs.declared.types.yaml_encoding_t.{yaml_encoding_t}
 use Rattle.yaml_text.specs.Fault.{Fault}
 use Rattle.yaml_text.specs.Token.{Token}
 use Rattle.yaml_scan.specs.All.{ReadsAll}
 use Rattle.yaml_scan.specs.Begins.{Begins}
 use Rattle.yaml_scan.specs.Inputs.{answers_to}
+use Rattle.yaml_scan.specs.KeptCalls.{ComesFirst as IsTakenFirst, GivesMore, GivesToFault, HasNoMoreRoom, token_peeked}
 use Rattle.yaml_scan.specs.Parser.{Parser}
 use Rattle.yaml_scan.specs.Scanned.{Scanned}
+use Rattle.yaml_scan.specs.Session.Call.{SCAN}
+use Rattle.yaml_scan.specs.Sink.{said_len}
+use Rattle.yaml_scan.specs.declared.kept.yaml_kept_parser_t.{yaml_kept_parser_t}
+use Rattle.yaml_scan.specs.inside.Kept.{IsKept}
 use Rattle.yaml_scan.proofs.RunningCalls.ScansToTheEnd.{scans_begin, scans_end}
-use Rattle.yaml_c.specs.Ahead.{Ahead, ahead_of, is_end}
-use Rattle.yaml_c.specs.Ahead.Ahead.{NONE, TOKEN, FAULT, OVER}
-use Rattle.yaml_c.specs.Held.{IsFirst, Stands}
-use Rattle.yaml_c.specs.inside.Batch.{Stops, GivesNext, GoesOn, KeepsSizes}
-use Rattle.yaml_c.specs.Record.{record_of, texts_of, all_texts}
-use Rattle.yaml_c.specs.inside.Sink.{ArePut, IsBeside, IsPut, IsWithin}
-use Rattle.yaml_c.specs.inside.Spelled.{spelled_of}
-use Rattle.yaml_c.specs.inside.MorePut.{more_put, none_put}
+use Rattle.yaml_c.specs.Ahead.{Ahead, IsAhead}
+use Rattle.yaml_c.specs.Ahead.Ahead.{NONE, READ_FAULT, ALL_GIVEN}
+use Rattle.yaml_c.specs.Held.{ComesFirst, IsKeptAt, Scan, Stands, comes}
+use Rattle.yaml_c.specs.Next.{Next, need, next_of, shown_next}
+use Rattle.yaml_c.specs.Next.Next.{UNKNOWN, TOKEN, FAULT, OVER}
+use Rattle.yaml_c.specs.Record.{all_texts}
+use Rattle.yaml_c.specs.inside.Batch.{GivesNext, Stops}
+use Rattle.yaml_c.specs.inside.MorePut.{none_put}
+use Rattle.yaml_c.specs.inside.Sink.{ArePut, IsWithin, Lacks}
 use Rattle.yaml_c.specs.declared.held.ahead_t.{ahead_t}
 use Rattle.yaml_c.specs.declared.held.ahead_t.TheVariants as code
 use Rattle.yaml_c.specs.declared.sink.token_rooms_t.{token_rooms_t}
-use Rattle.yaml_c.proofs.Rooms.{length-covered_from}
-use Rattle.yaml_c.proofs.TokensPut.{Fits, HavePut, have_put, same_sizes}
+use Rattle.yaml_c.proofs.ShownTokens.{ends_with_token, fault_hides, shown_begins}
+use Rattle.yaml_c.proofs.TokensPut.{Fits, HavePut, have_put, said_is, same_sizes}
 
--- before the first token
-pub no_token_yet : (r : token_rooms_t) → r.token_count ≡ 0 → r.text_len ≡ 0 → KeepsSizes r r
-no_token_yet r n t = record { tokens = refl; texts = refl; few = omega (arith, n); fit = omega (arith, t) }
-
-pub goes_from : (limit : ℕ) (setting : yaml_encoding_t) (input : List ℕ) (given : List Token) (r : token_rooms_t) (p : Parser) (a : Ahead)
-    → r.token_count ≡ 0 → r.text_len ≡ 0 → Stands limit setting input p given a → GoesOn limit setting input given r p r a
-goes_from limit setting input given r p a n t s = record {
-  list = [];
-  put = none_put r;
-  count = sym n;
-  text = sym t;
-  stands = subst (λ (z : List Token). Stands limit setting input p z a) (sym (append-nil given)) s;
-}
-
--- sizes that are kept twice
-pub sizes_to : (first new next : token_rooms_t) → KeepsSizes first new → KeepsSizes new next → KeepsSizes first next
-sizes_to first new next k l = record { tokens = l.tokens ∙ k.tokens; texts = l.texts ∙ k.texts; few = l.few; fit = l.fit }
-
--- what ends a batch after a token
-pub goes_on : (b : Bool) → (if b then Some OVER else None) ≡ None → b ≡ false
-goes_on true e = absurd (cc)
-goes_on false e = refl
-
-pub ends_there : (b : Bool) (o : Ahead) → (if b then Some OVER else None) ≡ Some o → (b ≡ true) × (OVER ≡ o)
-ends_there true o e = (refl, cc)
-ends_there false o e = absurd (cc)
-
-length-all_texts : (xs : List Token) (t : Token) → length (all_texts (xs ++ t ∷ [])) ≡ length (all_texts xs) + length (texts_of t)
-length-all_texts [] t = let e = length-append (texts_of t) (all_texts []) in omega arith
-length-all_texts (x ∷ xs) t =
-    let a = length-append (texts_of x) (all_texts (xs ++ t ∷ [])) in
-    let b = length-append (texts_of x) (all_texts xs) in
-    let c = length-all_texts xs t in
-    omega arith
-
--- the rooms after one token more
-pub keeps_more : (old new next : token_rooms_t) (t : Token) → KeepsSizes old new → IsPut new t next
-    → new.token_count < length new.tokens.now → new.text_len + length (texts_of t) ≤ length new.texts.now
-    → length new.tokens.now < 2 ^ 63 → length new.texts.now < 2 ^ 63 → KeepsSizes old next
-keeps_more old new next t k put one fits few short =
-    let one_size : length next.tokens.now ≡ length new.tokens.now = ap length put.records
-    ∙ length-covered_from new.token_count (record_of (spelled_of new.spelled) new.text_len t ∷ []) new.tokens.now in
-    let two_size : length next.texts.now ≡ length new.texts.now = ap length put.texts ∙ length-covered_from new.text_len (texts_of t) new.texts.now in
-    record {
-      tokens = one_size ∙ k.tokens;
-      texts = two_size ∙ k.texts;
-      few = omega (arith, put.token_count, one_size);
-      fit = omega (arith, put.text_len, two_size);
-    }
-
--- there is room for one record less
-pub fewer_records : (new next : token_rooms_t) (t : Token) → IsPut new t next → new.token_count < length new.tokens.now → length new.tokens.now < 2 ^ 63
-    → length next.tokens.now - next.token_count < length new.tokens.now - new.token_count
-fewer_records new next t put one few =
-    let one_size : length next.tokens.now ≡ length new.tokens.now = ap length put.records
-    ∙ length-covered_from new.token_count (record_of (spelled_of new.spelled) new.text_len t ∷ []) new.tokens.now in
-    omega (arith, put.token_count, one_size)
-
-module _ (limit : ℕ) (setting : yaml_encoding_t) (input : List ℕ) (given : List Token) (old : token_rooms_t) (p : Parser) (new : token_rooms_t) (a : Ahead) (g : GoesOn limit setting input given old p new a) where
-  -- one token more was given
-  module _ (q : Parser) (t : Token) (next : token_rooms_t) (stands : Stands limit setting input q (given ++ g.list) (TOKEN t)) (put : IsPut new t next)
-      (one : new.token_count < length new.tokens.now) (fits : new.text_len + length (texts_of t) ≤ length new.texts.now)
-      (few : length new.tokens.now < 2 ^ 63) (short : length new.texts.now < 2 ^ 63) where
-    longer : Scanned limit setting input q (given ++ (g.list ++ t ∷ [])) (is_end t)
-    longer = subst (λ (z : List Token). Scanned limit setting input q z (is_end t)) (append_assoc given g.list (t ∷ [])) stands
-
-    given_more : (b : Ahead) → Stands limit setting input q (given ++ (g.list ++ t ∷ [])) b → GoesOn limit setting input given old q next b
-    given_more b s = record {
-      list = g.list ++ t ∷ [];
-      put = more_put old new next g.list (t ∷ []) g.put (next, put, none_put next);
-      count = (let l = length_push g.list t in omega (arith, l, g.count, put.token_count));
-      text = (let l = length-all_texts g.list t in omega (arith, l, g.text, put.text_len));
-      stands = s;
-    }
-
-    pub goes_more : is_end t ≡ false → GoesOn limit setting input given old q next NONE
-    goes_more e = given_more NONE (subst (λ (z : Bool). Scanned limit setting input q (given ++ (g.list ++ t ∷ [])) z) e longer)
-
-    pub all_given : is_end t ≡ true → ReadsAll limit setting input (given ++ (g.list ++ t ∷ [])) None
-    all_given e = scans_end limit setting input q (given ++ (g.list ++ t ∷ []))
-        (subst (λ (z : Bool). Scanned limit setting input q (given ++ (g.list ++ t ∷ [])) z) e longer)
-
-    pub goes_end : is_end t ≡ true → GoesOn limit setting input given old q next OVER
-    goes_end e = given_more OVER (inl (subst (λ (z : Bool). Scanned limit setting input q (given ++ (g.list ++ t ∷ [])) z) e longer))
-
-  -- the batch ends there
-  pub batch_ends : (b : Ahead) (q : Parser) → KeepsSizes old new → Stands limit setting input q (given ++ g.list) b
-      → Stops (length old.tokens.now) (length old.texts.now) g.list b → (b ≡ OVER → ReadsAll limit setting input (given ++ g.list) None)
-      → GivesNext limit setting input given old q new b
-  batch_ends b q k s stops last = record {
-    list = g.list;
-    put = g.put;
-    few = omega (arith, g.count, k.few, k.tokens);
-    fit = omega (arith, g.text, k.fit, k.texts);
-    stands = s;
-    stops = stops;
-    last = last;
-  }
-
--- what was given is a beginning of all tokens
-without_last : (xs all : List Token) (t : Token) → Begins (xs ++ t ∷ []) all → Begins xs all
-without_last xs all t b = record { rest = t ∷ b.rest; is = b.is ∙ append_assoc xs (t ∷ []) b.rest }
-
+-- WHAT WAS GIVEN
 all_begin : (limit : ℕ) (setting : yaml_encoding_t) (input : List ℕ) (given : List Token) (f : Option Fault) → ReadsAll limit setting input given f → Begins given (answers_to limit setting input).tokens
 all_begin limit setting input given f (inl w) = record { rest = []; is = sym w.0 ∙ sym (append-nil given) }
 all_begin limit setting input given f (inr w) = w.0.beginning
 
+-- what was given is a beginning of all tokens
 pub begins : (limit : ℕ) (setting : yaml_encoding_t) (input : List ℕ) (p : Parser) (given : List Token) (a : Ahead) → Stands limit setting input p given a → Begins given (answers_to limit setting input).tokens
 begins limit setting input p given NONE w = scans_begin limit setting input p given _ w
-begins limit setting input p given (TOKEN t) w = without_last given _ t (scans_begin limit setting input p (given ++ t ∷ []) (is_end t) w)
-begins limit setting input p given (FAULT f) w = all_begin limit setting input given (Some f) w.reads
-begins limit setting input p given OVER (inl w) = scans_begin limit setting input p given true w
-begins limit setting input p given OVER (inr w) = all_begin limit setting input given (Some w.0) w.1.reads
+begins limit setting input p given (READ_FAULT f) w = all_begin limit setting input given (Some f) w.reads
+begins limit setting input p given ALL_GIVEN (inl w) = scans_begin limit setting input p given true w
+begins limit setting input p given ALL_GIVEN (inr w) = all_begin limit setting input given (Some w.0) w.1.reads
+
+-- with the token that comes next it is one too
+token_shown_is : (o : Option Token) (t : Token) → shown_next o ≡ TOKEN t → o ≡ Some t
+token_shown_is None t e = absurd (cc)
+token_shown_is (Some u) t e = cc
+
+pub next_begins : (limit : ℕ) (setting : yaml_encoding_t) (input : List ℕ) (p : Parser) (given : List Token) (a : Ahead) (t : Token) → Stands limit setting input p given a → next_of p a ≡ TOKEN t → Begins (given ++ t ∷ []) (answers_to limit setting input).tokens
+next_begins limit setting input p given NONE t w e = shown_begins limit setting input p given w t (token_shown_is (token_peeked p) t e)
+next_begins limit setting input p given (READ_FAULT f) t w e = absurd (cc)
+next_begins limit setting input p given ALL_GIVEN t w e = absurd (cc)
 
 -- if nothing comes any more, all was given
-pub all_read : (limit : ℕ) (setting : yaml_encoding_t) (input : List ℕ) (p : Parser) (given : List Token) → Stands limit setting input p given OVER → (fault : Option Fault) × ReadsAll limit setting input given fault
+pub all_read : (limit : ℕ) (setting : yaml_encoding_t) (input : List ℕ) (p : Parser) (given : List Token) → Stands limit setting input p given ALL_GIVEN → (fault : Option Fault) × ReadsAll limit setting input given fault
 all_read limit setting input p given (inl w) = (None, scans_end limit setting input p given w)
 all_read limit setting input p given (inr w) = (Some w.0, w.1.reads)
-
--- so the next token is one
-same_next : (given all : List Token) (t x : Token) (ys : List Token) → Begins (given ++ t ∷ []) all → Begins (given ++ x ∷ ys) all → x ≡ t
-same_next given all t x ys b d =
-    let e : given ++ (t ∷ b.rest) ≡ given ++ (x ∷ (ys ++ d.rest)) = sym (append_assoc given (t ∷ []) b.rest) ∙ sym b.is ∙ d.is ∙ append_assoc given (x ∷ ys) d.rest in
-    let f = append_cancel_left given (t ∷ b.rest) (x ∷ (ys ++ d.rest)) e in
-    cc
-
--- a token that was read ahead comes first
-module _ (limit : ℕ) (setting : yaml_encoding_t) (input : List ℕ) (p q : Parser) (given : List Token) (t : Token) (here : Scanned limit setting input p (given ++ t ∷ []) (is_end t)) where
-  pub token_first : (xs : List Token) (a after : Ahead) → Stands limit setting input q (given ++ xs) a → (xs ≡ [] → after ≡ TOKEN t) → IsFirst t xs after
-  token_first [] a after s none = none refl
-  token_first (x ∷ ys) a after s none = same_next given _ t x ys (scans_begin limit setting input p (given ++ t ∷ []) (is_end t) here) (begins limit setting input q (given ++ x ∷ ys) a s)
-
-  -- or is still ahead
-  pub token_stays : (records bytes : ℕ) (xs : List Token) (a : Ahead) → xs ≡ [] → Stands limit setting input q (given ++ xs) a → Stops records bytes xs a
-      → 0 < records → ((f : Fault) → a ≡ FAULT f → ⊥) → a ≡ TOKEN t
-  token_stays records bytes (x ∷ ys) a n s stops some no_fault = absurd (cc)
-  token_stays records bytes [] NONE n s stops some no_fault = absurd (omega (arith, stops, some))
-  token_stays records bytes [] (TOKEN u) n s stops some no_fault =
-      let same = same_next given _ t u [] (scans_begin limit setting input p (given ++ t ∷ []) (is_end t) here)
-      (subst (λ (z : List Token). Begins (z ++ u ∷ []) (answers_to limit setting input).tokens) (append-nil given) (scans_begin limit setting input q ((given ++ []) ++ u ∷ []) (is_end u) s)) in
-      ap (λ (z : Token). TOKEN z) same
-  token_stays records bytes [] (FAULT f) n s stops some no_fault = absurd (no_fault f refl)
-  token_stays records bytes [] OVER n s stops some no_fault = absurd (omega (arith, stops))
-
--- the batch ends with the stream end
-pub stream_ends : (limit : ℕ) (setting : yaml_encoding_t) (input : List ℕ) (given : List Token) (old : token_rooms_t) (p : Parser) (new : token_rooms_t) (a : Ahead) (g : GoesOn limit setting input given old p new a)
-    (q : Parser) (t : Token) (next : token_rooms_t) (stands : Stands limit setting input q (given ++ g.list) (TOKEN t)) (put : IsPut new t next)
-    (one : new.token_count < length new.tokens.now) (fits : new.text_len + length (texts_of t) ≤ length new.texts.now)
-    (few : length new.tokens.now < 2 ^ 63) (short : length new.texts.now < 2 ^ 63) → KeepsSizes old new → is_end t ≡ true → GivesNext limit setting input given old q next OVER
-unfolding goes_end given_more
-stream_ends limit setting input given old p new a g q t next stands put one fits few short k e =
-    let more = goes_end limit setting input given old p new a g q t next stands put one fits few short e in
-    batch_ends limit setting input given old q next OVER more OVER q (keeps_more old new next t k put one fits few short) more.stands
-    (omega (arith, more.count, put.token_count, few))
-    (λ z. all_given limit setting input given old p new a g q t next stands put one fits few short e)
-
--- what is no token, not nothing, and not the end ends every batch
-pub stops_rest : (records bytes : ℕ) (list : List Token) (a : ahead_t) → ((t : _) → a ≡ code.TOKEN t → ⊥) → ahead_of a ≢ NONE → ahead_of a ≢ OVER → Stops records bytes list (ahead_of a)
-stops_rest records bytes list code.NONE n m o = absurd (m refl)
-stops_rest records bytes list (code.TOKEN t) n m o = absurd (n t refl)
-stops_rest records bytes list (code.FAULT f) n m o = tt
-stops_rest records bytes list code.OVER n m o = absurd (o refl)
-
--- the code has read nothing ahead, if it is so as the definitions see it
-pub none_is : (a : ahead_t) → ahead_of a ≡ NONE → a ≡ code.NONE
-none_is code.NONE e = refl
-none_is (code.TOKEN t) e = absurd (cc)
-none_is (code.FAULT f) e = absurd (cc)
-none_is code.OVER e = absurd (cc)
-
-pub none_is_open : NONE ≡ OVER → ⊥
-none_is_open e = absurd (cc)
-
--- a parser that can go on is one of the input
-pub stands_in : (limit : ℕ) (setting : yaml_encoding_t) (input : List ℕ) (p : Parser) (given : List Token) (a : ahead_t) → ((f : _) → a ≡ code.FAULT f → ⊥) → ahead_of a ≢ OVER
-    → Stands limit setting input p given (ahead_of a) → p.input ≡ input
-stands_in limit setting input p given code.NONE n o s = s.input_is
-stands_in limit setting input p given (code.TOKEN t) n o s = s.input_is
-stands_in limit setting input p given (code.FAULT f) n o s = absurd (n f refl)
-stands_in limit setting input p given code.OVER n o s = absurd (o refl)
 
 -- what holds of a parser's own input holds of the input that it was opened with
 pub of_input : (limit : ℕ) (setting : yaml_encoding_t) (input : List ℕ) (p : Parser) (given : List Token) → Scanned limit setting input p given false → (P : ℕ → yaml_encoding_t → List ℕ → Type 0)
@@ -214,60 +64,200 @@ of_input limit setting input p given s P x = subst (λ (z : List ℕ). P limit s
 pub own : (limit : ℕ) (setting : yaml_encoding_t) (input : List ℕ) (p : Parser) (given : List Token) → Scanned limit setting input p given false → Scanned p.limit p.setting p.input p given false
 own limit setting input p given s = subst (λ (z : List ℕ). Scanned p.limit p.setting z p given false) (sym s.input_is) (subst (λ (z : yaml_encoding_t). Scanned p.limit z input p given false) (sym s.setting_is) (subst (λ (z : ℕ). Scanned z setting input p given false) (sym s.limit_is) s))
 
--- TOKENS THAT WENT STRAIGHT INTO THE ROOMS
--- a room that is another one only by its spare list
-pub beside_sizes : (old new next : token_rooms_t) → KeepsSizes old new → IsBeside new next → KeepsSizes old next
-beside_sizes old new next k e = record { tokens = rw e.tokens k.tokens; texts = rw e.texts k.texts; few = rw (e.token_count, e.tokens) k.few; fit = rw (e.text_len, e.texts) k.fit }
+-- WHAT COMES FIRST
+-- a token that was shown is the first that is given, or is still shown
+shown_first : (o : Option Token) (list : List Token) (q : Parser) (next : Next) → (list ≡ [] → next ≡ shown_next (token_peeked q))
+    → IsTakenFirst o list q → ComesFirst (shown_next o) list None next
+shown_first None list q next same w = tt
+shown_first (Some t) [] q next same w = same refl ∙ ap shown_next w
+shown_first (Some t) (x ∷ list) q next same w = w
 
--- the rooms after some tokens
-module _ (new next : token_rooms_t) (fits : Fits new) (tokens : List Token) (put : ArePut new tokens next) (within : IsWithin next) where
-  have : HavePut new tokens next
-  have = have_put new next tokens fits put
+-- the fault comes after a token that was shown
+fault_first : (o : Option Token) (list : List Token) (q : Parser) (f : Fault) → token_peeked q ≡ None
+    → IsTakenFirst o list q → ComesFirst (shown_next o) list None (FAULT f)
+fault_first None list q f hidden w = tt
+fault_first (Some t) [] q f hidden w = absurd (let e = sym hidden ∙ w in cc)
+fault_first (Some t) (x ∷ list) q f hidden w = w
 
-  size : (length next.tokens.now ≡ length new.tokens.now) × (length next.texts.now ≡ length new.texts.now)
-  size = same_sizes new next tokens have
+-- what comes next is still that, if nothing is given
+pub still_first : (n : Next) → ComesFirst n [] None n
+still_first UNKNOWN = tt
+still_first (TOKEN t) = refl
+still_first (FAULT f) = (refl, inr refl)
+still_first OVER = tt
 
-  counted : next.token_count ≡ new.token_count + length tokens
+-- THE ROOMS AFTER SOME TOKENS
+module _ (old new : token_rooms_t) (fits : Fits old) (no_token : old.token_count ≡ 0) (no_text : old.text_len ≡ 0)
+    (list : List Token) (put : ArePut old list new) (within : IsWithin new) where
+  have : HavePut old list new
+  have = have_put old new list fits put
+
+  size : (length new.tokens.now ≡ length old.tokens.now) × (length new.texts.now ≡ length old.texts.now)
+  size = same_sizes old new list have
+
+  counted : new.token_count ≡ length list
   counted = let q = size in let a = have.token_count in let b = within.few in let c = fits.tokens in omega arith
 
-  measured : next.text_len ≡ new.text_len + length (all_texts tokens)
+  measured : new.text_len ≡ length (all_texts list)
   measured = let q = size in let a = have.text_len in let b = within.fit in let c = fits.texts in omega arith
 
-  pub sizes_then : (old : token_rooms_t) → KeepsSizes old new → KeepsSizes old next
-  sizes_then old k = let q = size in record { tokens = q.0 ∙ k.tokens; texts = q.1 ∙ k.texts; few = within.few; fit = within.fit }
+  few : length list ≤ length old.tokens.now
+  few = let q = size in let a = counted in let b = within.few in omega arith
 
-  pub count_there : new.token_count ≤ next.token_count
-  count_there = let n = counted in omega (arith, n)
+  fit : length (all_texts list) ≤ length old.texts.now
+  fit = let q = size in let a = measured in let b = within.fit in omega arith
 
-  pub fewer_there : 0 < length tokens → length next.tokens.now - next.token_count < length new.tokens.now - new.token_count
-  fewer_there s = let q = size in let a = counted in let b = within.few in omega arith
+  -- there is no room for a record, or none for the texts of a token
+  lacks_record : Lacks new 1 0 → length list ≡ length old.tokens.now
+  lacks_record (inl w) = let q = size in let a = counted in let b = few in omega arith
+  lacks_record (inr w) = absurd (let b = within.fit in omega arith)
 
-pub tokens_sizes : (old new next : token_rooms_t) (fits : Fits new) (tokens : List Token) → ArePut new tokens next → IsWithin next → KeepsSizes old new → KeepsSizes old next
-tokens_sizes old new next fits tokens put within k = sizes_then new next fits tokens put within old k
+  lacks_text : (t : Token) → Lacks new 1 (said_len t.token_data)
+      → (length list ≡ length old.tokens.now) ⊎ (length old.texts.now < length (all_texts list) + need (TOKEN t))
+  lacks_text t (inl w) = inl (let q = size in let a = counted in let b = few in omega arith)
+  lacks_text t (inr w) = inr (let q = size in let a = measured in let e = said_is t.token_data in omega arith)
 
-all_texts_append : (xs ys : List Token) → length (all_texts (xs ++ ys)) ≡ length (all_texts xs) + length (all_texts ys)
-all_texts_append [] ys = omega arith
-all_texts_append (x ∷ xs) ys =
-    let a = length-append (texts_of x) (all_texts (xs ++ ys)) in
-    let b = length-append (texts_of x) (all_texts xs) in
-    let c = all_texts_append xs ys in
-    omega arith
+  stops_full : (o : Option Token) → length list ≡ length old.tokens.now
+      → Stops (length old.tokens.now) (length old.texts.now) list (shown_next o)
+  stops_full None w = w
+  stops_full (Some t) w = inl w
 
-module _ (limit : ℕ) (setting : yaml_encoding_t) (input : List ℕ) (given : List Token) (old : token_rooms_t) (p : Parser) (new : token_rooms_t) (g : GoesOn limit setting input given old p new NONE) (next : token_rooms_t) where
-  abbrev pub beside_goes : IsBeside new next → GoesOn limit setting input given old p next NONE
-  beside_goes e = record {
-    list = g.list;
-    put = subst (λ (z : List Token). ArePut old z next) (append-nil g.list) (more_put old new next g.list [] g.put e);
-    count = g.count ∙ sym e.token_count;
-    text = g.text ∙ sym e.text_len;
-    stands = g.stands;
+  -- so a batch stops there
+  pub stops_there : (q : Parser) → q.session.over ≡ false → HasNoMoreRoom (Lacks new) q
+      → Stops (length old.tokens.now) (length old.texts.now) list (shown_next (token_peeked q))
+  stops_there q e (inl over) = absurd (let k = sym e ∙ over in cc)
+  stops_there q e (inr (inl w)) = stops_full (token_peeked q) (lacks_record w)
+  stops_there q e (inr (inr w)) =
+      subst (λ (o : Option Token). Stops (length old.tokens.now) (length old.texts.now) list (shown_next o)) (sym w.1)
+      (lacks_text w.0 w.2)
+
+-- THE TOKENS THAT A SCANNER GIVES
+module _ (s : Scan) (old new : token_rooms_t) (kept : yaml_kept_parser_t) (fits : Fits old) (no_token : old.token_count ≡ 0)
+    (no_text : old.text_len ≡ 0) (within : IsWithin new) (none : s.ahead ≡ NONE)
+    (here : Scanned s.limit s.setting s.input s.parser s.given false) where
+  comes_shown : comes s ≡ shown_next (token_peeked s.parser)
+  comes_shown = ap (λ (a : Ahead). next_of s.parser a) none
+
+  abbrev went_on : (q : Parser) (list : List Token) (b : Bool) → Type 0
+  went_on q list b = Scanned s.limit s.setting s.input q (s.given ++ list) b
+
+  goes_on : (q : Parser) (g : GivesMore s.parser q (λ list. ArePut old list new)) → went_on q g.tokens q.session.over
+  goes_on q g = of_input s.limit s.setting s.input s.parser s.given here (λ n x i. Scanned n x i q (s.given ++ g.tokens) q.session.over)
+      (g.on s.given (own s.limit s.setting s.input s.parser s.given here))
+
+  -- to the room's end
+  pub gives_more : (q : Parser) → IsKept q kept → q.session.over ≡ false → GivesMore s.parser q (λ list. ArePut old list new)
+      → HasNoMoreRoom (Lacks new) q → GivesNext s old new kept code.NONE
+  gives_more q keeps e g room = record {
+    parser = q;
+    keeps = keeps;
+    after = NONE;
+    ahead = refl;
+    list = g.tokens;
+    put = g.given;
+    few = few old new fits no_token no_text g.tokens g.given within;
+    fit = fit old new fits no_token no_text g.tokens g.given within;
+    stands = subst (λ (b : Bool). went_on q g.tokens b) e (goes_on q g);
+    stops = stops_there old new fits no_token no_text g.tokens g.given within q e room;
+    first = subst (λ (n : Next). ComesFirst n g.tokens None (next_of q NONE)) (sym comes_shown)
+        (shown_first (token_peeked s.parser) g.tokens q (next_of q NONE) (λ z. refl) g.first);
+    last = λ z. absurd (cc);
   }
 
-  pub tokens_go : (fits : Fits new) (tokens : List Token) → ArePut new tokens next → IsWithin next → (q : Parser) → Scanned limit setting input q ((given ++ g.list) ++ tokens) false → GoesOn limit setting input given old q next NONE
-  tokens_go fits tokens put within q s = record {
-    list = g.list ++ tokens;
-    put = more_put old new next g.list tokens g.put put;
-    count = (let l = length-append g.list tokens in let n = counted new next fits tokens put within in omega (arith, g.count));
-    text = (let l = all_texts_append g.list tokens in let n = measured new next fits tokens put within in omega (arith, g.text));
-    stands = subst (λ (z : List Token). Scanned limit setting input q z false) (append_assoc given g.list tokens) s;
-  }
+  -- to the stream end
+  pub gives_rest : (q : Parser) → IsKept q kept → q.session.over ≡ true → GivesMore s.parser q (λ list. ArePut old list new)
+      → GivesNext s old new kept code.OVER
+  gives_rest q keeps e g =
+      let on : went_on q g.tokens true = subst (λ (b : Bool). went_on q g.tokens b) e (goes_on q g) in
+      let some = ends_with_token s.limit s.setting s.input s.parser s.given here q g.tokens on in record {
+        parser = q;
+        keeps = keeps;
+        after = ALL_GIVEN;
+        ahead = refl;
+        list = g.tokens;
+        put = g.given;
+        few = few old new fits no_token no_text g.tokens g.given within;
+        fit = fit old new fits no_token no_text g.tokens g.given within;
+        stands = inl on;
+        stops = some;
+        first = subst (λ (n : Next). ComesFirst n g.tokens None OVER) (sym comes_shown)
+            (shown_first (token_peeked s.parser) g.tokens q OVER (λ z. absurd (let k = ap length z in omega arith)) g.first);
+        last = λ z. scans_end s.limit s.setting s.input q (s.given ++ g.tokens) on;
+      }
+
+  -- to the fault
+  pub gives_to_fault : (q : Parser) (f : Fault) → IsKept q kept → q.session.fault ≡ Some f → GivesToFault SCAN s.parser q (λ list. ArePut old list new) f
+      → GivesNext s old new kept code.FAULT
+  gives_to_fault q f keeps kind g =
+      let o = own s.limit s.setting s.input s.parser s.given here in
+      let on : Scanned s.limit s.setting s.input g.last (s.given ++ g.tokens) false = of_input s.limit s.setting s.input s.parser s.given here
+      (λ n x i. Scanned n x i g.last (s.given ++ g.tokens) false) (g.on s.given o) in record {
+        parser = q;
+        keeps = keeps;
+        after = READ_FAULT f;
+        ahead = (f, kind, refl);
+        list = g.tokens;
+        put = g.given;
+        few = few old new fits no_token no_text g.tokens g.given within;
+        fit = fit old new fits no_token no_text g.tokens g.given within;
+        stands = record {
+          reads = of_input s.limit s.setting s.input s.parser s.given here (λ n x i. ReadsAll n x i (s.given ++ g.tokens) (Some f)) (g.reads s.given o);
+          before = g.last;
+          scanned = on;
+          ended = g.ended;
+        };
+        stops = tt;
+        first = subst (λ (n : Next). ComesFirst n g.tokens None (FAULT f)) (sym comes_shown)
+            (fault_first (token_peeked s.parser) g.tokens q f (fault_hides g.last q f on.over g.ended) g.first);
+        last = λ z. absurd (cc);
+      }
+
+-- nothing is given, since it was known what comes next: the fault
+pub gives_none : (s : Scan) (old : token_rooms_t) (kept : yaml_kept_parser_t) (read : ahead_t) → IsKeptAt s kept read → (read ≡ code.NONE → ⊥) → (read ≡ code.OVER → ⊥)
+    → GivesNext s old old kept read
+gives_none s old kept code.NONE at known more = absurd (known refl)
+gives_none s old kept code.OVER at known more = absurd (more refl)
+gives_none s old kept code.FAULT at known more = let f = at.ahead.0 in record {
+  parser = s.parser;
+  keeps = at.kept;
+  after = READ_FAULT f;
+  ahead = (f, at.ahead.1, refl);
+  list = [];
+  put = none_put old;
+  few = omega arith;
+  fit = omega arith;
+  stands = subst (λ (z : List Token). Stands s.limit s.setting s.input s.parser z (READ_FAULT f)) (sym (append-nil s.given))
+      (subst (λ (z : Ahead). Stands s.limit s.setting s.input s.parser s.given z) at.ahead.2 at.stands);
+  stops = tt;
+  first = subst (λ (z : Ahead). ComesFirst (next_of s.parser z) [] None (FAULT f)) (sym at.ahead.2) (refl, inr refl);
+  last = λ z. absurd (cc);
+}
+
+-- WHAT THE CODE HAS READ AHEAD
+-- nothing
+pub none_ahead : (s : Scan) (kept : yaml_kept_parser_t) (read : ahead_t) → IsKeptAt s kept read → read ≡ code.NONE → s.ahead ≡ NONE
+none_ahead s kept read at e = subst (λ (z : ahead_t). IsAhead z s.parser.session.fault s.ahead) e at.ahead
+
+-- that nothing comes
+pub over_ahead : (s : Scan) (kept : yaml_kept_parser_t) (read : ahead_t) → IsKeptAt s kept read → read ≡ code.OVER → s.ahead ≡ ALL_GIVEN
+over_ahead s kept read at e = subst (λ (z : ahead_t). IsAhead z s.parser.session.fault s.ahead) e at.ahead
+
+pub over_is : (read : ahead_t) (fault : Option Fault) (a : Ahead) → IsAhead read fault a → a ≡ ALL_GIVEN → read ≡ code.OVER
+over_is code.NONE fault a h e = absurd (let k = sym h ∙ e in cc)
+over_is code.FAULT fault a h e = absurd (let k = sym h.2 ∙ e in cc)
+over_is code.OVER fault a h e = refl
+
+-- the fault, which the parser keeps
+pub fault_ahead : (read : ahead_t) (fault : Option Fault) (a : Ahead) → IsAhead read fault a → read ≡ code.FAULT → (f : Fault) × (fault ≡ Some f) × (a ≡ READ_FAULT f)
+fault_ahead read fault a h e = subst (λ (z : ahead_t). IsAhead z fault a) e h
+
+pub next_is_fault : (p : Parser) (read : ahead_t) (a : Ahead) (f : Fault) → IsAhead read p.session.fault a → read ≡ code.FAULT → Some f ≡ p.session.fault → next_of p a ≡ FAULT f
+next_is_fault p read a f h e is = let w = fault_ahead read p.session.fault a h e in let k : Some f ≡ Some w.0 = is ∙ w.1 in
+    ap (λ (z : Ahead). next_of p z) w.2 ∙ cc
+
+pub fault_is_kept : (p : Parser) (read : ahead_t) (a : Ahead) → IsAhead read p.session.fault a → read ≡ code.FAULT → None ≡ p.session.fault → ⊥
+fault_is_kept p read a h e is = let w = fault_ahead read p.session.fault a h e in let k : None ≡ Some w.0 = is ∙ w.1 in absurd (cc)
+
+-- only tokens were given, if nothing was read ahead
+pub scanned_so_far : (s : Scan) (kept : yaml_kept_parser_t) (read : ahead_t) → IsKeptAt s kept read → read ≡ code.NONE → Scanned s.limit s.setting s.input s.parser s.given false
+scanned_so_far s kept read at e = subst (λ (z : Ahead). Stands s.limit s.setting s.input s.parser s.given z) (none_ahead s kept read at e) at.stands

@@ -134,7 +134,16 @@ same_sizes a b list p = (
   ap (λ (z : List ℕ). length z) p.texts ∙ length-covered_from a.text_len (all_texts list) a.texts.now,
 )
 
--- and stay the same rooms
-pub same_names : (a b : token_rooms_t) (list : List Token) → ArePut a list b → (b.tokens.ghost_name ≡ a.tokens.ghost_name) × (b.texts.ghost_name ≡ a.texts.ghost_name)
-same_names a b [] put = (rw put.tokens refl, rw put.texts refl)
-same_names a b (t ∷ ts) put = let p = put.1 in let n = same_names put.0 b ts put.2 in (n.0 ∙ p.same_tokens, n.1 ∙ p.same_texts)
+-- and stay the same rooms, as does the place of the spare list
+pub record AreSame (a b : token_rooms_t) : Type 0 where
+  pub tokens : b.tokens.ghost_name ≡ a.tokens.ghost_name
+  pub texts : b.texts.ghost_name ≡ a.texts.ghost_name
+  pub spare : b.spare.ghost_name ≡ a.spare.ghost_name
+
+pub same_rooms : (a b : token_rooms_t) (list : List Token) → ArePut a list b → AreSame a b
+same_rooms a b [] put = record { tokens = rw put.tokens refl; texts = rw put.texts refl; spare = put.same_spare }
+same_rooms a b (t ∷ ts) put = let p = put.1 in let n = same_rooms put.0 b ts put.2 in record {
+  tokens = n.tokens ∙ p.same_tokens;
+  texts = n.texts ∙ p.same_texts;
+  spare = n.spare ∙ p.same_spare;
+}

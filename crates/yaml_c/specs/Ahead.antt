@@ -1,38 +1,24 @@
--- What was read ahead of the tokens that were given.
-use Rattle.std.specs.Prelude.{ℕ, Bool, length, if◌then◌else◌, Option, Some, None}
-use Rattle.yaml_text.specs.Fault.{Fault, fault_of}
-use Rattle.yaml_text.specs.Token.{Token, token_of, type_of}
-use Rattle.yaml_scan.specs.TokenTypes.{is_last_type}
-use Rattle.yaml_c.specs.Answer.{fault_texts}
-use Rattle.yaml_c.specs.Record.{texts_of}
+-- What was read ahead of the tokens that were given. A token that was read ahead stays in the parser, and so does the
+-- fault.
+use Rattle.std.specs.Prelude.{◌≡◌, Option, None, Some}
+use Rattle.yaml_text.specs.Fault.{Fault}
 use Rattle.yaml_c.specs.declared.held.ahead_t.{ahead_t}
 use Rattle.yaml_c.specs.declared.held.ahead_t.TheVariants as code
 
--- nothing, the next token, or the fault that comes next; or nothing comes, since the stream end or the fault was given
+-- nothing, or the fault that comes next; or nothing comes, since the stream end or the fault was given
 pub data Ahead : Type 0 where
   NONE : Ahead
-  TOKEN : Token → Ahead
-  FAULT : Fault → Ahead
-  OVER : Ahead
+  READ_FAULT : Fault → Ahead
+  ALL_GIVEN : Ahead
 
--- that of the code
-abbrev pub ahead_of : ahead_t → Ahead
-ahead_of code.NONE = NONE
-ahead_of (code.TOKEN t) = TOKEN (token_of t)
-ahead_of (code.FAULT f) = FAULT (fault_of f)
-ahead_of code.OVER = OVER
+-- That of the code, if this is the fault that ended the parser's session.
+abbrev pub IsAhead : ahead_t → Option Fault → Ahead → Type 0
+IsAhead code.NONE fault a = a ≡ NONE
+IsAhead code.FAULT fault a = (f : Fault) × (fault ≡ Some f) × (a ≡ READ_FAULT f)
+IsAhead code.OVER fault a = a ≡ ALL_GIVEN
 
--- the token is the stream end
-abbrev pub is_end : Token → Bool
-is_end t = is_last_type (type_of t.token_data)
-
--- what ends a batch after a token that was given: the stream end does
-abbrev pub after_token : Token → Option Ahead
-after_token t = if is_end t then Some OVER else None
-
--- how many bytes of texts what comes next has
-abbrev pub need : Ahead → ℕ
-need (TOKEN t) = length (texts_of t)
-need (FAULT f) = length (fault_texts (Some f))
-need NONE = 0
-need OVER = 0
+-- the fault that comes next, if it does
+abbrev pub read_fault : Ahead → Option Fault
+read_fault NONE = None
+read_fault (READ_FAULT f) = Some f
+read_fault ALL_GIVEN = None

@@ -1,6 +1,6 @@
 -- A scanner that is held between calls, and what the calls give of it.
 use Rattle.std.specs.Prelude.{◌≡◌, ◌≢◌, ◌⊎◌, ◌++◌, ◌∷◌, [], ℕ, ◌+◌, ◌≤◌, ◌<◌, List, length, Option, Some, None, false}
-use Rattle.std.specs.Prelude.{IsSomeAnd, true}
+use Rattle.std.specs.Prelude.{true}
 use Rattle.yaml_text.specs.declared.types.yaml_encoding_t.{yaml_encoding_t}
 use Rattle.yaml_text.specs.Decode.{encoding_of}
 use Rattle.yaml_text.specs.Fault.{Fault}
@@ -14,15 +14,19 @@ use Rattle.yaml_scan.specs.Scanned.{Scanned}
 use Rattle.yaml_scan.specs.Session.Answer.{FAULT as FAULT_ANSWER}
 use Rattle.yaml_scan.specs.Session.Call.{SCAN}
 use Rattle.yaml_scan.specs.Sessions.{new_session}
+use Rattle.yaml_scan.specs.declared.kept.yaml_kept_parser_t.{yaml_kept_parser_t}
 use Rattle.yaml_scan.specs.inside.Kept.{IsKept}
-use Rattle.yaml_c.specs.Ahead.{Ahead, ahead_of, is_end, need}
-use Rattle.yaml_c.specs.Ahead.Ahead.{NONE, TOKEN, FAULT, OVER}
+use Rattle.yaml_c.specs.Ahead.{Ahead, IsAhead}
+use Rattle.yaml_c.specs.Ahead.Ahead.{NONE, READ_FAULT, ALL_GIVEN}
 use Rattle.yaml_c.specs.Answer.{Rooms, answer_of, answer_with, no_answer, fault_texts}
+use Rattle.yaml_c.specs.Next.{Next, next_of, need}
+use Rattle.yaml_c.specs.Next.Next.{UNKNOWN, TOKEN, FAULT, OVER}
 use Rattle.yaml_c.specs.Record.{held, record_of, records_of, texts_of, all_texts}
 use Rattle.yaml_c.specs.Room.{covered}
 use Rattle.yaml_c.specs.Spelled.{Spelled, skipped_of, spelled_in}
 use Rattle.yaml_c.specs.Status as status
 use Rattle.yaml_c.specs.declared.answer.bogzhami_answer.{bogzhami_answer}
+use Rattle.yaml_c.specs.declared.held.ahead_t.{ahead_t}
 use Rattle.yaml_c.specs.declared.held.held_t.{held_t}
 use Rattle.yaml_c.specs.declared.record.bogzhami_token.{bogzhami_token}
 
@@ -36,6 +40,10 @@ pub record Scan : Type 0 where
   pub given : List Token
   pub ahead : Ahead
 
+-- What comes next, as far as it is known.
+abbrev pub comes : Scan → Next
+comes s = next_of s.parser s.ahead
+
 -- These are all tokens before the fault, and the parser was left by the scan that returned it.
 pub record IsEndedBy
     (limit : ℕ) (setting : yaml_encoding_t) (input : List ℕ) (p : Parser) (given : List Token) (f : Fault) : Type 0
@@ -48,9 +56,8 @@ pub record IsEndedBy
 -- The tokens are those that a parser of the input returned, or the input has no more of them.
 abbrev pub Stands : ℕ → yaml_encoding_t → List ℕ → Parser → List Token → Ahead → Type 0
 Stands limit setting input p given NONE = Scanned limit setting input p given false
-Stands limit setting input p given (TOKEN t) = Scanned limit setting input p (given ++ t ∷ []) (is_end t)
-Stands limit setting input p given (FAULT f) = IsEndedBy limit setting input p given f
-Stands limit setting input p given OVER = Scanned limit setting input p given true
+Stands limit setting input p given (READ_FAULT f) = IsEndedBy limit setting input p given f
+Stands limit setting input p given ALL_GIVEN = Scanned limit setting input p given true
     ⊎ ((f : Fault) × IsEndedBy limit setting input p given f)
 
 -- A new one.
@@ -64,45 +71,50 @@ opened input setting limit = record {
   ahead = NONE;
 }
 
+-- A parser that is kept, and what was read ahead, are those of a scanner that is at s.
+pub record IsKeptAt (s : Scan) (parser : yaml_kept_parser_t) (read : ahead_t) : Type 0 where
+  pub kept : IsKept s.parser parser
+  pub ahead : IsAhead read s.parser.session.fault s.ahead
+  pub stands : Stands s.limit s.setting s.input s.parser s.given s.ahead
+
 -- What is held is a scanner that is at s.
 pub record IsAt (s : Scan) (h : held_t) : Type 0 where
-  pub kept : IsSomeAnd h.parser (IsKept s.parser)
-  pub ahead : ahead_of h.ahead ≡ s.ahead
-  pub stands : Stands s.limit s.setting s.input s.parser s.given s.ahead
+  pub keeps : IsKeptAt s h.parser h.ahead
   pub encoding : h.encoding ≡ encoding_number (encoding_of s.setting s.input)
   pub skipped : h.skipped ≡ skipped_of s.setting s.input
 
 -- Where it is after some more tokens, with this parser.
 abbrev pub moved : Scan → Parser → List Token → Ahead → Scan
-moved s p list ahead = record s { parser = p; given = s.given ++ list; ahead = ahead }
+moved s p list after = record s { parser = p; given = s.given ++ list; ahead = after }
 
 -- Why a batch without a fault ended: all records have tokens, the stream end is the last, or the texts of what comes
 -- next find no room after at least one token.
-abbrev pub Why : ℕ → ℕ → List Token → Ahead → Type 0
-Why records bytes list after = (length list ≡ records) ⊎ ((0 < length list) × (after ≡ OVER))
-    ⊎ ((0 < length list) × (bytes < length (all_texts list) + need after))
+abbrev pub Why : ℕ → ℕ → List Token → Next → Type 0
+Why records bytes list next = (length list ≡ records) ⊎ ((0 < length list) × (next ≡ OVER))
+    ⊎ ((0 < length list) × (bytes < length (all_texts list) + need next))
 
--- What the status and the answer tell of a batch.
-abbrev pub Tells : Scan → Rooms → List Token → Option Fault → Ahead → bogzhami_answer → ℕ → Type 0
-Tells s room list fault after answer code =
+-- What the status and the answer tell of a batch, after which this comes next.
+abbrev pub Tells : Scan → Rooms → List Token → Option Fault → Next → bogzhami_answer → ℕ → Type 0
+Tells s room list fault next answer code =
     ((code ≡ status.done) × (fault ≡ None) × (answer ≡ answer_of list None)
-    × Why (length room.tokens) (length room.texts) list after)
+    × Why (length room.tokens) (length room.texts) list next)
     ⊎ ((code ≡ status.fault) × (fault ≢ None) × (answer ≡ answer_of list fault))
-    ⊎ ((code ≡ status.over) × (s.ahead ≡ OVER) × (list ≡ []) × (fault ≡ None) × (after ≡ OVER) × (answer ≡ no_answer))
-    ⊎ ((code ≡ status.no_room) × (list ≡ []) × (fault ≡ None) × (length room.texts < need after)
-    × (answer ≡ answer_with 0 (held (need after)) None))
+    ⊎ ((code ≡ status.over) × (s.ahead ≡ ALL_GIVEN) × (list ≡ []) × (fault ≡ None) × (next ≡ OVER)
+    × (answer ≡ no_answer))
+    ⊎ ((code ≡ status.no_room) × (list ≡ []) × (fault ≡ None) × (length room.texts < need next)
+    × (answer ≡ answer_with 0 (held (need next)) None))
 
--- the first of the tokens is t, or there is none and t is ahead
-abbrev pub IsFirst : Token → List Token → Ahead → Type 0
-IsFirst t [] after = after ≡ TOKEN t
-IsFirst t (x ∷ list) after = x ≡ t
+-- the first of the tokens is t, or there is none and t comes next
+abbrev pub IsFirst : Token → List Token → Next → Type 0
+IsFirst t [] next = next ≡ TOKEN t
+IsFirst t (x ∷ list) next = x ≡ t
 
--- What was read ahead comes first, or is still ahead.
-abbrev pub ComesFirst : Ahead → List Token → Option Fault → Ahead → Type 0
-ComesFirst NONE list fault after = Unit {0}
-ComesFirst (TOKEN t) list fault after = IsFirst t list after
-ComesFirst (FAULT f) list fault after = (list ≡ []) × ((fault ≡ Some f) ⊎ (after ≡ FAULT f))
-ComesFirst OVER list fault after = Unit {0}
+-- What was to come next comes first, or is still to come next.
+abbrev pub ComesFirst : Next → List Token → Option Fault → Next → Type 0
+ComesFirst UNKNOWN list fault next = Unit {0}
+ComesFirst (TOKEN t) list fault next = IsFirst t list next
+ComesFirst (FAULT f) list fault next = (list ≡ []) × ((fault ≡ Some f) ⊎ (next ≡ FAULT f))
+ComesFirst OVER list fault next = Unit {0}
 
 -- A call gives the next tokens, whole ones, and perhaps the fault after them. After the fault, and after the stream
 -- end, nothing more is given.
@@ -117,22 +129,22 @@ pub record IsNext (s : Scan) (old new : Rooms) (h : held_t) (answer : bogzhami_a
   pub records_are : new.tokens ≡ covered (records_of (spelled_in s.setting s.input) 0 list) old.tokens
   pub texts_are : new.texts ≡ covered (all_texts list ++ fault_texts fault) old.texts
   pub ends : (f : Fault) → fault ≡ Some f
-      → (after ≡ OVER) × ReadsAll s.limit s.setting s.input (s.given ++ list) (Some f)
+      → (after ≡ ALL_GIVEN) × ReadsAll s.limit s.setting s.input (s.given ++ list) (Some f)
   -- so a batch begins with what a peek has shown
-  pub first : ComesFirst s.ahead list fault after
+  pub first : ComesFirst (comes s) list fault (next_of parser after)
   -- nothing comes any more only after the stream end, or after the fault that is given here
-  pub last : s.ahead ≢ OVER → after ≡ OVER → ReadsAll s.limit s.setting s.input (s.given ++ list) fault
-  pub over : s.ahead ≡ OVER → code ≡ status.over
-  pub tells : Tells s old list fault after answer code
+  pub last : s.ahead ≢ ALL_GIVEN → after ≡ ALL_GIVEN → ReadsAll s.limit s.setting s.input (s.given ++ list) fault
+  pub over : s.ahead ≡ ALL_GIVEN → code ≡ status.over
+  pub tells : Tells s old list fault (next_of parser after) answer code
 
 -- The same scanner, with what was read ahead.
 abbrev pub looked : Scan → Parser → Ahead → Scan
-looked s p ahead = record s { parser = p; ahead = ahead }
+looked s p after = record s { parser = p; ahead = after }
 
 -- What comes next is shown, if its texts find room: the token and its texts, the fault and its texts, or that nothing
 -- comes.
 pub record Shows
-    (spelled : Spelled) (a : Ahead) (old : bogzhami_token) (room : List ℕ) (new : bogzhami_token) (texts : List ℕ)
+    (spelled : Spelled) (a : Next) (old : bogzhami_token) (room : List ℕ) (new : bogzhami_token) (texts : List ℕ)
     (answer : bogzhami_answer) (code : ℕ) : Type 0 where
   pub no_room : length room < need a
       → (new ≡ old) × (texts ≡ room) × (code ≡ status.no_room) × (answer ≡ answer_with 0 (held (need a)) None)
@@ -149,11 +161,11 @@ pub record IsPeek
     (s : Scan) (old : bogzhami_token) (room : List ℕ) (new : bogzhami_token) (texts : List ℕ) (h : held_t)
     (answer : bogzhami_answer) (code : ℕ) : Type 0 where
   pub parser : Parser
-  pub ahead : Ahead
-  pub known : ahead ≢ NONE
-  -- what was read ahead before is shown again
-  pub stays : s.ahead ≢ NONE → ahead ≡ s.ahead
+  pub after : Ahead
+  pub known : next_of parser after ≢ UNKNOWN
+  -- what was known before is shown again
+  pub stays : comes s ≢ UNKNOWN → next_of parser after ≡ comes s
   -- that nothing comes is shown only after the stream end or the fault was given
-  pub over : ahead ≡ OVER → s.ahead ≡ OVER
-  pub at : IsAt (looked s parser ahead) h
-  pub shows : Shows (spelled_in s.setting s.input) ahead old room new texts answer code
+  pub over : after ≡ ALL_GIVEN → s.ahead ≡ ALL_GIVEN
+  pub at : IsAt (looked s parser after) h
+  pub shows : Shows (spelled_in s.setting s.input) (next_of parser after) old room new texts answer code

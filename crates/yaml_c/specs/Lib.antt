@@ -5,6 +5,7 @@ pub mod Spelled
 pub mod Room
 pub mod Status
 pub mod Ahead
+pub mod Next
 pub mod Held
 pub mod Handle
 pub mod HeldLaws

@@ -13,11 +13,9 @@ ghost use Rattle.yaml_c.specs.Status as status;
 
 use crate::answer::{ZERO, bogzhami_answer, counts};
 use crate::handle::{bogzhami_handle, closed, handle_of, into_box};
-use crate::held::{look_ahead, next_batch, nothing_held, open, show};
+use crate::held::{next_batch, open, peek};
 use crate::numbers::encoding_of;
 use crate::record::{bogzhami_mark, bogzhami_token, mark_of};
-use crate::sink::token_rooms_t;
-use crate::spelled::spelled_t;
 use crate::status::{DONE, NO_MEMORY, NOT_LIVE, WRONG};
 use std::alloc::Global;
 
@@ -108,21 +106,8 @@ pub extern "C" fn bogzhami_next(
         return NOT_LIVE;
     }
     let mut held = into_box(alloc, held);
-    let mut spare = Vec::new(alloc);
-    let mut rooms = token_rooms_t {
-        tokens,
-        texts,
-        spelled: spelled_t {
-            input,
-            skipped: held.skipped,
-        },
-        token_count: 0,
-        text_len: 0,
-        spare: &mut spare,
-    };
-    let (told, status) = next_batch(&mut held, &mut rooms);
+    let status = next_batch(&mut held, input, tokens, texts, answer);
     *handle = handle_of(held);
-    *answer = told;
     status
 }
 
@@ -149,15 +134,8 @@ pub extern "C" fn bogzhami_peek(
         return NOT_LIVE;
     }
     let mut held = into_box(alloc, held);
-    let seen = look_ahead(alloc, std::mem::replace(&mut *held, nothing_held()), input);
-    let spelled = spelled_t {
-        input,
-        skipped: seen.skipped,
-    };
-    let (told, status) = show(spelled, &seen.ahead, token, texts);
-    *held = seen;
+    let status = peek(&mut held, input, token, texts, answer);
     *handle = handle_of(held);
-    *answer = told;
     status
 }
 
@@ -182,9 +160,7 @@ pub extern "C" fn bogzhami_reach(
         return NOT_LIVE;
     }
     let held = into_box(alloc, held);
-    if let Some(kept) = &held.parser {
-        *mark = mark_of(kept.mark());
-    }
+    *mark = mark_of(held.parser.mark());
     *handle = handle_of(held);
     DONE
 }

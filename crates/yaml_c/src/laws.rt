@@ -1,6 +1,6 @@
 //! What holds of rooms and of batches: each law is the contract of a function that does nothing.
 ghost use Rattle.std.specs.Prelude.{ℕ};
-ghost use Rattle.yaml_c.specs.HeldLaws.{GivesBeginning, GivesAll, IsOneReading};
+ghost use Rattle.yaml_c.specs.HeldLaws.{GivesBeginning, GivesAll, IsOneReading, ShowsNext};
 ghost use Rattle.yaml_c.specs.Laws.{HoldsAll, HoldsBeginning, KeepsSize};
 
 use crate::record::bogzhami_token;
@@ -21,11 +21,12 @@ pub fn records_in_room()
     ensures size { KeepsSize bogzhami_token }
 {}
 
-/// The tokens of all batches of a scanner, joined, are a beginning of those of its input. When it is over, they are
-/// what reading the input to its end returns, in one call as in many; that is one list and one fault, if memory is not
-/// refused.
+/// The tokens of all batches of a scanner, joined, are a beginning of those of its input, and a token that is known to
+/// come next is the next of these. When the scanner is over, they are what reading the input to its end returns, in one
+/// call as in many; that is one list and one fault, if memory is not refused.
 pub fn batches_joined()
     ensures beginning { GivesBeginning }
+    ensures next { ShowsNext }
     ensures all { GivesAll }
     ensures one { IsOneReading }
 {}

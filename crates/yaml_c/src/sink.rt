@@ -68,6 +68,7 @@ impl<'a> token_rooms_t<'a> {
     fn count_token(&mut self, texts_end: u64)
         ensures tokens { self.new.tokens ≡ self.old.tokens }
         ensures texts { self.new.texts ≡ self.old.texts }
+        ensures spare { self.new.spare ≡ self.old.spare }
         ensures spelled { self.new.spelled ≡ self.old.spelled }
         ensures token_count { self.new.token_count ≡ held (self.old.token_count + 1) }
         ensures text_len { self.new.text_len ≡ texts_end }
@@ -159,6 +160,7 @@ impl<'a> token_rooms_t<'a> {
     pub(crate) fn put_fault(&mut self, fault: yaml_fault_t)
         ensures tokens { self.new.tokens ≡ self.old.tokens }
         ensures same_texts { self.new.texts.ghost_name ≡ self.old.texts.ghost_name }
+        ensures same_spare { self.new.spare.ghost_name ≡ self.old.spare.ghost_name }
         ensures texts { self.new.texts.now ≡ covered_from self.old.text_len
             (fault_texts (Some (fault_of fault))) self.old.texts.now }
         ensures token_count { self.new.token_count ≡ self.old.token_count }
@@ -169,7 +171,7 @@ impl<'a> token_rooms_t<'a> {
 }
 
 impl yaml_token_sink_t for token_rooms_t<'_> {
-    ghost use Rattle.yaml_c.specs.inside.Sink.{ArePut, IsWithin};
+    ghost use Rattle.yaml_c.specs.inside.Sink.{ArePut, IsWithin, Lacks};
     ghost use Rattle.yaml_c.specs.inside.MorePut.{more_put, none_put, within_none};
 
     ghost took = { ArePut };
@@ -177,6 +179,8 @@ impl yaml_token_sink_t for token_rooms_t<'_> {
     ghost may_refuse = { ⊥ };
 
     ghost within = { IsWithin };
+
+    ghost lacks = { Lacks };
 
     #[inline(always)]
     fn put(&mut self, token: yaml_token_t) -> Result<(), AllocError> {

@@ -1,5 +1,9 @@
 //! Calls as a C program makes them. The number 77 stands for what was there before.
+ghost use Rattle.std.specs.Prelude.{◌≡◌, ◌≤◌, true};
+ghost use Rattle.yaml_c.specs.Held.{Scan, IsAt};
+
 use super::*;
+use crate::handle::closed;
 use std::test::Fail;
 
 /// The usual key limit, in bytes.
@@ -256,5 +260,178 @@ fn values_in_other_encodings(rt: HostRuntime) -> Result<(), Fail> {
     assert_eq!(rt; place(rt, b"\xFF\xFE'\0'\0", 0), u64::MAX);
     assert_eq!(rt; place(rt, b"a\0", 2), u64::MAX);
     assert_eq!(rt; place(rt, b"\0a", 3), u64::MAX);
+    Ok(())
+}
+
+/// A handle that holds a scanner of an input, unless memory was refused.
+fn opened(rt: HostRuntime, input: &[u8]) -> bogzhami_handle
+    ensures { result.live ≡ true → (s : Scan) × (s.input ≡ input.now) × IsAt s result.held.value }
+{
+    let mut handle = closed();
+    let _status = bogzhami_open(rt.alloc(), &mut handle, input, 0, KEY_LIMIT);
+    handle
+}
+
+/// The status of a batch with room for so many tokens and bytes, how many tokens there are, the type of the first, and
+/// how many bytes the texts have.
+fn batch(
+    rt: HostRuntime,
+    handle: &mut bogzhami_handle,
+    input: &[u8],
+    count: usize,
+    len: usize,
+) -> (u32, u64, u32, u64)
+    requires count { count ≤ 8 }
+    requires len { len ≤ 128 }
+    requires at { handle.old.live ≡ true → (s : Scan) × (s.input ≡ input.now) × IsAt s handle.old.held.value }
+    ensures { handle.new.live ≡ true → (s : Scan) × (s.input ≡ input.now) × IsAt s handle.new.held.value }
+{
+    let mut tokens = [NO_TOKEN; 8];
+    let mut texts = [77u8; 128];
+    let mut answer = NO_ANSWER;
+    let status = bogzhami_next(
+        rt.alloc(),
+        handle,
+        input,
+        &mut tokens[..count],
+        &mut texts[..len],
+        &mut answer,
+    );
+    (
+        status,
+        answer.token_count,
+        tokens[0].token_type,
+        answer.text_len,
+    )
+}
+
+/// The status of a peek with room for so many bytes, the type of the token that it shows, and how many bytes its texts
+/// have.
+fn peeked(
+    rt: HostRuntime,
+    handle: &mut bogzhami_handle,
+    input: &[u8],
+    len: usize,
+) -> (u32, u32, u64)
+    requires len { len ≤ 128 }
+    requires at { handle.old.live ≡ true → (s : Scan) × (s.input ≡ input.now) × IsAt s handle.old.held.value }
+    ensures { handle.new.live ≡ true → (s : Scan) × (s.input ≡ input.now) × IsAt s handle.new.held.value }
+{
+    let mut token = NO_TOKEN;
+    let mut texts = [77u8; 128];
+    let mut answer = NO_ANSWER;
+    let status = bogzhami_peek(
+        rt.alloc(),
+        handle,
+        input,
+        &mut token,
+        &mut texts[..len],
+        &mut answer,
+    );
+    (status, token.token_type, answer.text_len)
+}
+
+const SHORT: &[u8] = b"ab";
+
+/// A token whose text finds no room is given by a later call that has the room, and what is needed is told until then.
+#[test]
+fn text_waits_for_its_room(rt: HostRuntime) -> Result<(), Fail> {
+    let mut handle = opened(rt, SHORT);
+    let start = batch(rt, &mut handle, SHORT, 8, 1);
+    assert_eq!(rt; start, (0, 1, 1, 0));
+    let none = batch(rt, &mut handle, SHORT, 8, 1);
+    assert_eq!(rt; none, (5, 0, 77, 2));
+    let none = batch(rt, &mut handle, SHORT, 8, 0);
+    assert_eq!(rt; none, (5, 0, 77, 2));
+    let rest = batch(rt, &mut handle, SHORT, 8, 2);
+    assert_eq!(rt; rest, (0, 2, 21, 2));
+    let over = batch(rt, &mut handle, SHORT, 8, 2);
+    assert_eq!(rt; over, (4, 0, 77, 0));
+    assert_eq!(rt; bogzhami_close(rt.alloc(), &mut handle), 0);
+    Ok(())
+}
+
+/// Whether two peeks show the next token, of this type and with texts of so many bytes, and then a batch gives it.
+fn is_shown_and_given(rt: HostRuntime, handle: &mut bogzhami_handle, kind: u32, len: u64) -> bool
+    requires { handle.old.live ≡ true → (s : Scan) × (s.input ≡ SHORT.now) × IsAt s handle.old.held.value }
+    ensures { handle.new.live ≡ true → (s : Scan) × (s.input ≡ SHORT.now) × IsAt s handle.new.held.value }
+{
+    let first = peeked(rt, handle, SHORT, 2);
+    let second = peeked(rt, handle, SHORT, 2);
+    let token = batch(rt, handle, SHORT, 1, 2);
+    first == (0, kind, len) && second == (0, kind, len) && token == (0, 1, kind, len)
+}
+
+/// A peek takes nothing: a second one shows the same, and the next batch begins with it.
+#[test]
+fn peek_before_batches_of_one(rt: HostRuntime) -> Result<(), Fail> {
+    let mut handle = opened(rt, SHORT);
+    assert!(rt; is_shown_and_given(rt, &mut handle, 1, 0));
+    assert!(rt; is_shown_and_given(rt, &mut handle, 21, 2));
+    assert!(rt; is_shown_and_given(rt, &mut handle, 2, 0));
+    let over = peeked(rt, &mut handle, SHORT, 2);
+    assert_eq!(rt; over, (4, 77, 0));
+    assert_eq!(rt; bogzhami_close(rt.alloc(), &mut handle), 0);
+    Ok(())
+}
+
+/// A peek without room for the texts tells how much is needed, and so does the next batch.
+#[test]
+fn peek_without_room(rt: HostRuntime) -> Result<(), Fail> {
+    let mut handle = opened(rt, SHORT);
+    let start = batch(rt, &mut handle, SHORT, 1, 0);
+    assert_eq!(rt; start, (0, 1, 1, 0));
+    let none = peeked(rt, &mut handle, SHORT, 1);
+    assert_eq!(rt; none, (5, 77, 2));
+    let none = batch(rt, &mut handle, SHORT, 8, 1);
+    assert_eq!(rt; none, (5, 0, 77, 2));
+    let shown = peeked(rt, &mut handle, SHORT, 2);
+    assert_eq!(rt; shown, (0, 21, 2));
+    let rest = batch(rt, &mut handle, SHORT, 8, 2);
+    assert_eq!(rt; rest, (0, 2, 21, 2));
+    assert_eq!(rt; bogzhami_close(rt.alloc(), &mut handle), 0);
+    Ok(())
+}
+
+/// Two scanners of one input go on each by itself.
+#[test]
+fn two_handles_over_one_input(rt: HostRuntime) -> Result<(), Fail> {
+    let mut one = opened(rt, SHORT);
+    let mut two = opened(rt, SHORT);
+    let start = batch(rt, &mut one, SHORT, 1, 2);
+    assert_eq!(rt; start, (0, 1, 1, 0));
+    assert!(rt; is_shown_and_given(rt, &mut two, 1, 0));
+    assert!(rt; is_shown_and_given(rt, &mut two, 21, 2));
+    let scalar = batch(rt, &mut one, SHORT, 1, 2);
+    assert_eq!(rt; scalar, (0, 1, 21, 2));
+    let end = batch(rt, &mut one, SHORT, 1, 2);
+    assert_eq!(rt; end, (0, 1, 2, 0));
+    assert_eq!(rt; bogzhami_close(rt.alloc(), &mut one), 0);
+    let end = batch(rt, &mut two, SHORT, 8, 2);
+    assert_eq!(rt; end, (0, 1, 2, 0));
+    assert_eq!(rt; bogzhami_close(rt.alloc(), &mut two), 0);
+    Ok(())
+}
+
+const FAULTY: &[u8] = b"@";
+
+/// A fault whose texts find no room is given by a later call, and once.
+#[test]
+fn fault_waits_for_its_room(rt: HostRuntime) -> Result<(), Fail> {
+    let mut handle = opened(rt, FAULTY);
+    let start = batch(rt, &mut handle, FAULTY, 8, 1);
+    assert_eq!(rt; start, (0, 1, 1, 0));
+    let (status, count, _, needed) = batch(rt, &mut handle, FAULTY, 8, 1);
+    assert_eq!(rt; (status, count), (5, 0));
+    let (status, kind, same) = peeked(rt, &mut handle, FAULTY, 1);
+    assert_eq!(rt; (status, kind, same), (5, 77, needed));
+    let room = (needed as usize).min(128);
+    let shorter = batch(rt, &mut handle, FAULTY, 8, room.saturating_sub(1));
+    assert_eq!(rt; shorter, (5, 0, 77, needed));
+    let fault = batch(rt, &mut handle, FAULTY, 8, room);
+    assert_eq!(rt; fault, (1, 0, 77, 0));
+    let over = batch(rt, &mut handle, FAULTY, 8, 128);
+    assert_eq!(rt; over, (4, 0, 77, 0));
+    assert_eq!(rt; bogzhami_close(rt.alloc(), &mut handle), 0);
     Ok(())
 }

@@ -8,6 +8,8 @@ pub mod VectorMasks
 pub mod CharacterCounts
 -- A run of bytes that end nothing is a run of whole characters of the class.
 pub mod QuietRuns
+-- Bytes of a line that end no run: the quiet ones, and those that a break may begin with, but does not.
+pub mod ClearRuns
 -- A list without the blanks at its end.
 pub mod TrimmedLists
 -- A run within a line, without the blanks at its end.

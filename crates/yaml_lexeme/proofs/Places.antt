@@ -6,3 +6,5 @@ pub mod PlaceMoves
 pub mod CursorMoves
 -- What the first bytes of a text say of its first character.
 pub mod FirstCharacters
+-- A line that ends with a line feed is taken without a count of its characters.
+pub mod FedLines

@@ -1,12 +1,14 @@
 //! Literal and folded scalars.
-ghost use Rattle.std.specs.Prelude.{◌≡◌, ◌+◌, ◌++◌, ◌<◌, ◌^◌, OnOk, IfOk, IfSome};
+ghost use Rattle.std.specs.Prelude.{◌≡◌, ◌+◌, ◌++◌, ◌<◌, ◌^◌, OnOk, IfOk, IfSome, [], length, replicate};
+ghost use Rattle.std.specs.Prelude.{true, false, encode_utf8};
 ghost use Rattle.yaml_text.specs.Chars.{utf8};
 ghost use Rattle.yaml_lexeme.specs.Block as spec;
 ghost use Rattle.yaml_lexeme.specs.inside.BlockAhead as ahead;
 ghost use Rattle.yaml_lexeme.specs.LexemeOf.{scalar_of};
 ghost use Rattle.yaml_lexeme.specs.inside.Gives.{Gives, Moves};
-ghost use Rattle.yaml_lexeme.specs.Place.{skip, break_len};
-ghost use Rattle.yaml_lexeme.specs.inside.Tails.{TakesBlanks, TakesLine, between_tail, chomped_tail};
+ghost use Rattle.yaml_lexeme.specs.Classes.{is_in_line};
+ghost use Rattle.yaml_lexeme.specs.Place.{skip, break_len, run, after_run};
+ghost use Rattle.yaml_lexeme.specs.inside.Tails.{breaks_in, TakesBlanks, TakesLine, between_tail, chomped_tail};
 
 use crate::classes::{is_blank, is_break};
 use crate::fold::{emptied, push_char, written};
@@ -36,13 +38,22 @@ pub(crate) struct header_t {
     pub digit: Option<u64>,
 }
 
+/// The breaks of empty lines.
+#[derive(Drop)]
+pub(crate) struct empties_t {
+    /// How many line feeds come first.
+    pub feeds: usize,
+    /// The other breaks, and the line feeds after them.
+    pub others: Vec<u8>,
+}
+
 /// What is kept of a text line.
 #[derive(Drop)]
 pub(crate) struct tail_t {
     /// Its break, as it is written.
     pub lead: Option<char>,
     /// The breaks of the empty lines after it.
-    pub empties: Vec<u8>,
+    pub empties: empties_t,
     /// Whether it begins with a blank.
     pub indented: bool,
     /// The mark after them.
@@ -180,16 +191,45 @@ fn take_indent(cursor: &mut cursor_t, limit: Option<u64>) -> Result<(), yaml_ref
     Ok(())
 }
 
+/// Appends a break. A line feed is counted, unless another break came before it.
+#[tactic(auto, using(crate::proofs::Readers::BlockLines::feed_counted))]
+#[inline(always)]
+fn push_empty(empties: &mut empties_t, c: char) -> Result<(), AllocError>
+    ensures { OnOk result (breaks_in empties.new ≡ breaks_in empties.old ++ encode_utf8 c) }
+{
+    if c == '\n' && empties.others.is_empty() && empties.feeds < usize::MAX {
+        empties.feeds += 1;
+        return Ok(());
+    }
+    push_char(&mut empties.others, c)
+}
+
+/// Forgets all breaks. The list keeps its room.
+fn clear_empties(empties: &mut empties_t)
+    ensures { breaks_in empties.new ≡ [] }
+{
+    empties.feeds = 0;
+    empties.others.clear();
+}
+
+/// Whether there is no break.
+fn no_empties(empties: &empties_t) -> bool
+    ensures none { result ≡ true → breaks_in empties.now ≡ [] }
+    ensures some { result ≡ false → 0 < length (breaks_in empties.now) }
+{
+    empties.feeds == 0 && empties.others.is_empty()
+}
+
 /// Takes empty lines and the indentation of the line that follows, appends their breaks to `breaks`, and sets the mark
 /// after them. Returns the greatest column that spaces reach on them.
 #[inline(always)]
 fn take_blank_lines(
     cursor: &mut cursor_t,
     limit: Option<u64>,
-    breaks: &mut Vec<u8>,
+    breaks: &mut empties_t,
     end: &mut yaml_mark_t,
 ) -> Result<u64, yaml_refusal_t>
-    ensures { TakesBlanks result breaks.old.items breaks.new.items end.new cursor.new
+    ensures { TakesBlanks result (breaks_in breaks.old) (breaks_in breaks.new) end.new cursor.new
         (ahead.blank_lines limit cursor.old) }
 {
     let mut column: u64 = 0;
@@ -197,7 +237,7 @@ fn take_blank_lines(
     take_indent(cursor, limit)?;
     'lines: while cursor.break_len() > 0 {
         column = column.max(cursor.mark().column);
-        push_char(breaks, written(cursor.peek(0)))?;
+        push_empty(breaks, written(cursor.peek(0)))?;
         cursor.skip(cursor.break_len());
         *end = cursor.mark();
         take_indent(cursor, limit)?;
@@ -221,6 +261,23 @@ fn take_break(cursor: &mut cursor_t) -> Option<char>
     if n == 0 { None } else { Some(written(c)) }
 }
 
+/// Takes what is left of a line and its break, and appends the text to `out`. Returns the break as it is written.
+#[inline(always)]
+fn take_text(cursor: &mut cursor_t, out: &mut Vec<u8>) -> Result<Option<char>, AllocError>
+    ensures text { OnOk result (out.new.items ≡ out.old.items ++ utf8 (run is_in_line cursor.old)) }
+    ensures lead { IfOk result (λ c. c ≡ spec.break_at (after_run is_in_line cursor.old)) }
+    ensures end { OnOk result (cursor.new ≡ spec.next_line cursor.old) }
+{
+    let left = cursor.left();
+    if let Some(n) = cursor.take_fed_line() {
+        out.extend_from_slice(&left[..n])?;
+        return Ok(Some('\n'));
+    }
+    let text = cursor.rare_run(class_t::IN_LINE);
+    out.extend_from_slice(text)?;
+    Ok(take_break(cursor))
+}
+
 /// Takes a text line after its indentation, appends its text to `out`, and sets what is kept of it.
 #[inline(always)]
 fn take_line(
@@ -232,14 +289,13 @@ fn take_line(
     ensures { TakesLine result out.old.items out.new.items tail.new cursor.new (ahead.line_at indent cursor.old) }
 {
     tail.indented = is_at!(cursor, is_blank, 0);
-    let text = cursor.run(class_t::IN_LINE);
-    out.extend_from_slice(text)?;
-    tail.lead = take_break(cursor);
-    tail.empties.clear();
+    tail.lead = take_text(cursor, out)?;
+    clear_empties(&mut tail.empties);
     take_blank_lines(cursor, Some(indent), &mut tail.empties, &mut tail.end)?;
     Ok(())
 }
 
+#[inline(always)]
 fn push_lead(out: &mut Vec<u8>, lead: Option<char>) -> Result<(), AllocError>
     ensures { OnOk result (out.new.items ≡ out.old.items ++ utf8 (spec.or_none lead)) }
 {
@@ -249,7 +305,34 @@ fn push_lead(out: &mut Vec<u8>, lead: Option<char>) -> Result<(), AllocError>
     Ok(())
 }
 
+/// Appends so many line feeds.
+#[inline(always)]
+fn push_feeds(out: &mut Vec<u8>, n: usize) -> Result<(), AllocError>
+    ensures { OnOk result (out.new.items ≡ out.old.items ++ replicate n 0x0A) }
+{
+    'feeds: for _ in 0..n {
+        out.push(b'\n')?;
+    }
+    Ok(())
+}
+
+/// Appends the breaks of empty lines. Room for all of them is requested at once.
+#[inline(always)]
+fn push_empties(out: &mut Vec<u8>, empties: &empties_t) -> Result<(), AllocError>
+    ensures { OnOk result (out.new.items ≡ out.old.items ++ breaks_in empties.now) }
+{
+    if empties.feeds > 0 {
+        out.reserve(empties.feeds.saturating_add(empties.others.len()))?;
+        push_feeds(out, empties.feeds)?;
+    }
+    if !empties.others.is_empty() {
+        out.extend_from_slice(&empties.others)?;
+    }
+    Ok(())
+}
+
 /// Appends to `out` what comes between a text line and the next, which begins with a blank if the flag is set.
+#[inline(always)]
 fn push_between(
     out: &mut Vec<u8>,
     folded: bool,
@@ -259,16 +342,14 @@ fn push_between(
     ensures { OnOk result (out.new.items ≡ out.old.items ++ between_tail folded tail.now next) }
 {
     if folded && tail.lead == Some('\n') && !(tail.indented || next) {
-        if tail.empties.is_empty() {
+        if no_empties(&tail.empties) {
             out.push(b' ')?;
         } else {
-            out.extend_from_slice(&tail.empties)?;
+            push_empties(out, &tail.empties)?;
         }
     } else {
         push_lead(out, tail.lead)?;
-        if !tail.empties.is_empty() {
-            out.extend_from_slice(&tail.empties)?;
-        }
+        push_empties(out, &tail.empties)?;
     }
     Ok(())
 }
@@ -283,7 +364,7 @@ fn push_chomped(out: &mut Vec<u8>, chomp: chomp_t, tail: &tail_t) -> Result<(), 
         chomp_t::CLIP => push_lead(out, tail.lead)?,
         chomp_t::KEEP => {
             push_lead(out, tail.lead)?;
-            out.extend_from_slice(&tail.empties)?;
+            push_empties(out, &tail.empties)?;
         }
     }
     Ok(())
@@ -358,7 +439,10 @@ fn take_lines(
     let set = set_indent(level, header.digit);
     let mut tail = tail_t {
         lead: None,
-        empties: Vec::new(*room.allocator()),
+        empties: empties_t {
+            feeds: 0,
+            others: Vec::new(*room.allocator()),
+        },
         indented: false,
         end: cursor.mark(),
     };

@@ -91,6 +91,19 @@ fn is_solid(cursor: &cursor_t, k: usize) -> bool
     }
 }
 
+/// The place after CR LF and spaces, if these are the gap that is here.
+#[inline(never)]
+fn after_crlf<'a>(cursor: &cursor_t<'a>) -> Option<cursor_t<'a>>
+    ensures { IfSome result (λ q. IsGap cursor.now q true) }
+{
+    let mut next = cursor.again();
+    if next.take_feed_and_spaces() && is_solid(&next, 0) {
+        Some(next)
+    } else {
+        None
+    }
+}
+
 /// The gap from a place on, read gap line by gap line.
 #[inline(never)]
 fn long_gap(
@@ -106,6 +119,11 @@ fn long_gap(
         → result.1 ≡ (spec.gap in_flow allowed (place_at text.now.chars n)).1 }
 {
     let mut cursor = cursor_t::at(text, at);
+    if check_at!(cursor, '\r', 0)
+        && let Some(next) = after_crlf(&cursor)
+    {
+        return (next.mark(), true);
+    }
     let broken = skip_gap_lines(&mut cursor, in_flow, allowed);
     (cursor.mark(), broken)
 }

@@ -20,7 +20,7 @@ ghost use Rattle.yaml_lexeme.specs.Answers.{Answers, ReadsAs, answer, lexeme_at,
 ghost use Rattle.yaml_lexeme.specs.Lexeme.{Lexeme, lexeme, whole, scalar_to, directive_to};
 ghost use Rattle.yaml_lexeme.specs.LexemeOf.{lexeme_of};
 ghost use Rattle.yaml_lexeme.specs.declared.kind.yaml_lexeme_kind_t.{yaml_lexeme_kind_t as Kind};
-ghost use Rattle.yaml_lexeme.specs.declared.kind.yaml_lexeme_kind_t.TheVariants.{PLAIN, TAG};
+ghost use Rattle.yaml_lexeme.specs.declared.kind.yaml_lexeme_kind_t.TheVariants.{PLAIN, STREAM_END, TAG};
 ghost use Rattle.yaml_lexeme.specs.declared.lex.yaml_context_t.{yaml_context_t};
 ghost use Rattle.yaml_text.specs.Token.{data_of};
 
@@ -35,7 +35,7 @@ use crate::place::cursor_t;
 use crate::plain::take_plain;
 use crate::problem::{refused, yaml_refusal_t};
 use crate::quoted::take_quoted;
-use crate::stream_end::take_stream_end;
+use crate::stream_end::{stream_end_at, take_stream_end};
 use crate::tag::take_tag;
 use std::alloc::Global;
 use yaml_text::{
@@ -511,6 +511,20 @@ pub fn yaml_read_character(
         → lexeme_at kind context (place_at text.now.chars n) ≡ Ok (lexeme_of result) }
 {
     take_character(&mut cursor_t::at(text, at), kind)
+}
+
+/// The stream end at a place. No memory is taken.
+///
+/// `at` must be the mark of a place of this text, as for [`yaml_lexeme_at`]. It is what `yaml_lexeme_at` returns there
+/// for the kind of a stream end, in any context.
+#[tactic(auto, unfolding(crate::specs::Lex::lex))]
+#[inline(always)]
+pub fn yaml_read_stream_end(text: &yaml_text_t, at: yaml_mark_t) -> yaml_lexeme_t
+    requires { (n : ℕ) × IsMarkOf text.now.chars at n }
+    ensures { (n : ℕ) (context : yaml_context_t) → IsMarkOf text.now.chars at n
+        → lexeme_at STREAM_END context (place_at text.now.chars n) ≡ Ok (lexeme_of result) }
+{
+    stream_end_at(&cursor_t::at(text, at))
 }
 
 /// The lexeme of any kind at a place, or why there is none, as [`yaml_read_plain`] returns a plain scalar.

@@ -1,5 +1,6 @@
 //! A place that moves through a text.
 ghost use Rattle.std.specs.Prelude.{ℕ, min, ◌≡◌, ◌+◌, ◌^◌, ◌<◌, ◌≤◌, length, slice_index, take, drop, false, true};
+ghost use Rattle.std.specs.Prelude.{IfSome, None};
 ghost use Rattle.std.specs.Char.{len_utf8};
 ghost use Rattle.std.specs.Str.{chars};
 ghost use Rattle.yaml_text.specs.Chars.{utf8};
@@ -7,14 +8,14 @@ ghost use Rattle.yaml_text.specs.TextBytes.{IsText};
 ghost use Rattle.yaml_text.specs.Classes.{is_break};
 ghost use Rattle.yaml_text.specs.Utf8.{value_of};
 ghost use Rattle.yaml_lexeme.specs.Place.{peek, first, place_at, skip, after_run, run};
-ghost use Rattle.yaml_lexeme.specs.inside.Moves.{mark_after};
+ghost use Rattle.yaml_lexeme.specs.inside.Moves.{mark_after, is_feed, feed_width, FedLine};
 ghost use Rattle.yaml_lexeme.specs.Counted.{IsMarkOf};
 ghost use Rattle.yaml_lexeme.specs.Place.{run_len, break_len};
 ghost use Rattle.yaml_lexeme.specs.declared.runs.class_t.TheVariants.{BLANK, SPACE};
 ghost use Rattle.yaml_lexeme.specs.inside.Runs.{class_test, is_line, Stands};
 
 use crate::classes::is_break;
-use crate::runs::{class_t, is_in, quiet_len, spaces_len, trimmed};
+use crate::runs::{class_t, is_in, line_len, quiet_len, spaces_len, trimmed};
 use std::marker::Model;
 use yaml_text::{WIDTH, yaml_mark_t, yaml_text_t};
 
@@ -71,6 +72,21 @@ fn rest(bytes: &[u8], n: usize) -> &[u8]
     ensures { result.now ≡ drop n bytes.now }
 {
     &bytes[n..]
+}
+
+/// How many bytes the line feed that is here takes, alone or after a carriage return, or 0 if there is none.
+#[inline(always)]
+fn feed_width(bytes: &[u8]) -> usize
+    ensures { result ≡ feed_width bytes.now }
+{
+    if bytes.is_empty() {
+        return 0;
+    }
+    match bytes[0] {
+        b'\n' => 1,
+        b'\r' if bytes.len() > 1 && bytes[1] == b'\n' => 2,
+        _ => 0,
+    }
 }
 
 /// The code point that a lead byte and those after it spell.
@@ -227,6 +243,21 @@ impl<'a> cursor_t<'a> {
         self.bytes = rest(self.bytes, 1);
     }
 
+    /// Takes a carriage return before a line feed.
+    #[inline(always)]
+    fn pass_return(&mut self)
+        requires here { first self.old ≡ 0x0D }
+        requires feed { peek self.old 1 ≡ 0x0A }
+        ensures { self.new ≡ skip 1 self.old }
+    {
+        self.mark = yaml_mark_t {
+            index: self.mark.index + 1,
+            line: self.mark.line,
+            column: self.mark.column + 1,
+        };
+        self.bytes = rest(self.bytes, 1);
+    }
+
     /// Takes a character of ASCII that is no break.
     #[inline(always)]
     pub fn pass(&mut self)
@@ -321,13 +352,14 @@ impl<'a> cursor_t<'a> {
         self.bytes
     }
 
-    /// Takes characters of a run, up to a byte at which it may end.
+    /// Takes characters of a run, up to a byte at which it may end. The flag says whether what only looks like a break
+    /// is taken as well.
     #[inline(always)]
-    fn skip_quiet(&mut self, class: class_t)
+    fn skip_quiet(&mut self, class: class_t, passes: bool)
         ensures goes { after_run (class_test class) self.new ≡ after_run (class_test class) self.old }
         ensures shorter { length self.new.rest ≤ length self.old.rest }
     {
-        let (n, count) = quiet_len(class, self.bytes);
+        let (n, count) = quiet_len(class, self.bytes, passes);
         self.mark = yaml_mark_t {
             index: self.mark.index + n as u64,
             line: self.mark.line,
@@ -343,13 +375,35 @@ impl<'a> cursor_t<'a> {
         ensures end { self.new ≡ after_run (class_test class) self.old }
     {
         let start = self.left();
-        self.skip_quiet(class);
+        self.skip_quiet(class, false);
         'run: while is_in(class, self.peek(0)) {
             self.advance();
-            self.skip_quiet(class);
+            self.skip_quiet(class, true);
         }
         let left = self.left();
         front(start, start.len() - left.len())
+    }
+
+    /// Takes what is left of a line and the line feed that ends it, alone or after a carriage return. Returns how many
+    /// bytes come before that break. If the line ends otherwise, nothing is taken.
+    #[inline(always)]
+    pub fn take_fed_line(&mut self) -> Option<usize>
+        ensures taken { IfSome result (λ n. FedLine n self.old self.new) }
+        ensures stays { result ≡ None → self.new ≡ self.old }
+    {
+        let n = line_len(self.bytes);
+        let left = rest(self.bytes, n);
+        let width = feed_width(left);
+        if width == 0 {
+            return None;
+        }
+        self.mark = yaml_mark_t {
+            index: self.mark.index + (n + width) as u64,
+            line: self.mark.line + 1,
+            column: 0,
+        };
+        self.bytes = rest(left, width);
+        Some(n)
     }
 
     /// The place after the run of the class that is here.
@@ -380,8 +434,21 @@ impl<'a> cursor_t<'a> {
         ensures end { self.new ≡ after_run (class_test class) self.old }
     {
         let start = self.left();
-        self.skip_quiet(class);
+        self.skip_quiet(class, false);
         self.skip_rest(class);
+        let left = self.left();
+        front(start, start.len() - left.len())
+    }
+
+    /// Takes the longest run of characters of the class, and returns its bytes, as `run` does, where that is rare: a
+    /// function of its own takes it.
+    #[inline(always)]
+    pub fn rare_run(&mut self, class: class_t) -> &'a [u8]
+        ensures value { result.now ≡ utf8 (run (class_test class) self.old) }
+        ensures end { self.new ≡ after_run (class_test class) self.old }
+    {
+        let start = self.left();
+        *self = self.again().past_run(class);
         let left = self.left();
         front(start, start.len() - left.len())
     }
@@ -393,7 +460,7 @@ impl<'a> cursor_t<'a> {
         requires { is_line class ≡ true }
         ensures { Stands (class_test class) self.old self.new }
     {
-        let (n, count) = quiet_len(class, self.bytes);
+        let (n, count) = quiet_len(class, self.bytes, true);
         let kept = trimmed(front(self.bytes, n)).len();
         self.mark = yaml_mark_t {
             index: self.mark.index + kept as u64,
@@ -424,6 +491,24 @@ impl<'a> cursor_t<'a> {
         ensures { self.new ≡ after_run (class_test SPACE) self.old }
     {
         self.skip_spaces(u64::MAX);
+    }
+
+    /// Takes a line feed, alone or after a carriage return, and the spaces after it. Returns whether it was here.
+    #[inline(always)]
+    pub fn take_feed_and_spaces(&mut self) -> bool
+        ensures here { result ≡ is_feed (first self.old) (peek self.old 1) }
+        ensures taken { result ≡ true → self.new ≡ after_run (class_test SPACE) (skip (break_len self.old) self.old) }
+        ensures stays { result ≡ false → self.new ≡ self.old }
+    {
+        let c = self.peek(0);
+        if c == '\r' && check_at!(self, '\n', 1) {
+            self.pass_return();
+        } else if c != '\n' {
+            return false;
+        }
+        self.pass_feed();
+        self.skip_all_spaces();
+        true
     }
 
     /// Takes the blanks that are here, one by one, since mostly they are few.

@@ -1,5 +1,5 @@
 //! Plain scalars.
-ghost use Rattle.std.specs.Prelude.{◌≡◌, ◌+◌, ◌||◌, ◌<◌, ◌≤◌, [], None, true, false, nat_le, length};
+ghost use Rattle.std.specs.Prelude.{ℕ, Bool, ◌≡◌, ◌+◌, ◌||◌, ◌<◌, ◌≤◌, [], None, true, false, nat_le, length};
 ghost use Rattle.std.specs.Prelude.{OnOk, IfOk, IfSome, take};
 ghost use Rattle.std.specs.List.{list_any};
 ghost use Rattle.yaml_text.specs.Classes as classes;
@@ -11,7 +11,7 @@ ghost use Rattle.yaml_lexeme.specs.inside.Words as words;
 ghost use Rattle.yaml_lexeme.specs.inside.Gives.{Gives, Appends};
 ghost use Rattle.yaml_lexeme.specs.LexemeOf.{scalar_of};
 ghost use Rattle.yaml_lexeme.specs.Reading.{with_front, over};
-ghost use Rattle.yaml_lexeme.specs.inside.Words.{links, words, plain_of, Goes, LeadsTo, Leaves, LeavesMore};
+ghost use Rattle.yaml_lexeme.specs.inside.Words.{links, words, plain_of, Ends, Goes, LeadsTo, Leaves, LeavesMore};
 
 use crate::classes::{ends, is_break, is_white};
 use crate::fold::{copied_front, push_separator};
@@ -213,9 +213,23 @@ fn take_link(
     Ok(true)
 }
 
-/// Takes the separator that is here, if a quick look shows that the scalar is over before it. Then it is
-/// empty, or is a line feed and spaces before a line that is not indented enough. Returns whether a break is
-/// in it.
+/// Whether the scalar is over before the line whose indentation ends here. It is if the line is not indented enough, or
+/// if it begins, in flow, with what ends an item.
+#[inline(always)]
+fn ends_before(cursor: &cursor_t, in_flow: bool, least: u64) -> bool
+    ensures { result ≡ true → Ends in_flow least cursor.now }
+{
+    let c = cursor.peek(0);
+    if in_flow {
+        c == ',' || c == ']' || c == '}'
+    } else {
+        cursor.mark().column < least && !is_white(c)
+    }
+}
+
+/// Takes the separator that is here, if a quick look shows that the scalar is over before it. Then it is empty, or is
+/// a line feed and spaces before a line that is not indented enough, or, in flow, before what ends an item. Returns
+/// whether a break is in it.
 #[inline(always)]
 fn ends_at_once(cursor: &mut cursor_t, in_flow: bool, least: u64) -> Option<bool>
     ensures over { IfSome result (λ b. spec.link in_flow least cursor.old ≡ over) }
@@ -227,17 +241,44 @@ fn ends_at_once(cursor: &mut cursor_t, in_flow: bool, least: u64) -> Option<bool
     if c != '\n' {
         return if is_white(c) { None } else { Some(false) };
     }
-    if in_flow {
-        return None;
-    }
     let mut next = cursor.again();
     next.pass_feed();
     next.skip_all_spaces();
-    if next.mark().column >= least || is_white(next.peek(0)) {
+    if !ends_before(&next, in_flow, least) {
         return None;
     }
     *cursor = next;
     Some(true)
+}
+
+/// Whether the scalar is over here, at whatever column: a comment or a `:` that makes it a key is here.
+fn ends_anywhere(cursor: &cursor_t) -> bool
+    ensures { (in_flow : Bool) (least : ℕ) → result ≡ true → Ends in_flow least cursor.now }
+{
+    let c = cursor.peek(0);
+    c == '#' || c == ':' && is_at!(cursor, ends, 1)
+}
+
+/// Takes the separator that is here, if a second look shows that the scalar is over before it. Then it is blanks, and
+/// after them nothing, or a line feed and spaces. It does not begin with a line feed, at which `ends_at_once` looks.
+/// Returns whether a break is in it.
+fn ends_soon(cursor: &mut cursor_t, in_flow: bool, least: u64) -> Option<bool>
+    ensures over { IfSome result (λ b. spec.link in_flow least cursor.old ≡ over) }
+    ensures end { IfSome result (λ b. cursor.new ≡ after_run sets.is_white cursor.old) }
+    ensures broken { IfSome result (λ b. b ≡ list_any classes.is_break (run sets.is_white cursor.old)) }
+    ensures stays { result ≡ None → cursor.new ≡ cursor.old }
+{
+    if check_at!(cursor, '\n', 0) {
+        return None;
+    }
+    let mut next = cursor.again();
+    next.skip_run(class_t::BLANK);
+    let broken = next.take_feed_and_spaces();
+    if !(ends_before(&next, in_flow, least) || ends_anywhere(&next)) {
+        return None;
+    }
+    *cursor = next;
+    Some(broken)
 }
 
 /// Takes the separators and words after those of the first line, which are in `scalar`, and the separator after all.
@@ -251,6 +292,11 @@ fn take_links(
     ensures { (p : Place) → LeadsTo in_flow least p scalar.old.value.items cursor.old
         → Gives (λ done. scalar_of scalar.new) result cursor.new (spec.plain in_flow least p) }
 {
+    scalar.end = cursor.mark();
+    if let Some(passed_break) = ends_soon(cursor, in_flow, least) {
+        scalar.passed_break = passed_break;
+        return Ok(());
+    }
     'links: while take_link(cursor, in_flow, least, &mut scalar.value)? {}
     scalar.end = cursor.mark();
     cursor.skip_run(class_t::BLANK);

@@ -1,5 +1,5 @@
 //! Runs of bytes of a class, up to a byte that needs a closer look.
-ghost use Rattle.std.specs.Prelude.{◌≡◌, ◌+◌, ◌-◌, ◌≤◌, true, false, length, take, drop, map};
+ghost use Rattle.std.specs.Prelude.{◌≡◌, ◌+◌, ◌-◌, ◌<◌, ◌≤◌, true, false, length, take, drop, map};
 ghost use Rattle.std.specs.List.{prefix_len, count_by};
 ghost use Rattle.std.specs.Simd.Lanes.{mask_l};
 ghost use Rattle.yaml_lexeme.specs.inside.Runs as spec;
@@ -215,13 +215,15 @@ fn starts_before(v: u8x16, n: usize) -> usize
     (starts(v) & low).count_ones() as usize
 }
 
-/// How many of a line's first bytes need no closer look, and how many of them begin a character.
+/// How many of a line's first bytes need no closer look, and how many of them begin a character. The flag says that a
+/// byte after them is known to be there.
 #[inline(always)]
-fn quiet_line(class: class_t, text: &[u8]) -> (usize, usize)
+fn quiet_bytes(class: class_t, text: &[u8]) -> (usize, usize, bool)
     requires { spec.is_line class ≡ true }
     ensures bytes { result.0 ≡ prefix_len (spec.is_quiet class) text.now }
     ensures chars { result.1 ≡ count_by spec.begins (take result.0 text.now) }
     ensures bound { result.0 ≤ length text.now }
+    ensures there { result.2 ≡ true → result.0 < length text.now }
 {
     let mut i: usize = 0;
     let mut n: usize = 0;
@@ -230,13 +232,67 @@ fn quiet_line(class: class_t, text: &[u8]) -> (usize, usize)
         let found = stops(class, v);
         if found != 0 {
             let k = found.trailing_zeros() as usize;
-            return (i + k, n + starts_before(v, k));
+            return (i + k, n + starts_before(v, k), true);
         }
         n += starts(v).count_ones() as usize;
         i += 16;
     }
     let end = slow_end(class, text, i);
-    (end, n + count_chars(part(text, i, end)))
+    (end, n + count_chars(part(text, i, end)), false)
+}
+
+/// Whether a byte with which a break may begin is here, and the two after it show that none does.
+#[inline(always)]
+fn is_false_lead(text: &[u8], at: usize) -> bool
+    requires { at ≤ length text.now }
+    ensures { result ≡ spec.is_false_lead_of (drop at text.now) }
+{
+    let left = &text[at..];
+    if left.len() < 3 {
+        return false;
+    }
+    match left[0] {
+        0xC2 => left[1] != 0x85,
+        0xE2 => left[1] != 0x80 || left[2] != 0xA8 && left[2] != 0xA9,
+        _ => false,
+    }
+}
+
+/// The same as `quiet_line`, from a place on up to which all is found out.
+#[inline(never)]
+fn past_leads(class: class_t, text: &[u8], from: usize, before: usize) -> (usize, usize)
+    requires line { spec.is_line class ≡ true }
+    requires clear { spec.Clear class text.now from }
+    requires within { from ≤ length text.now }
+    requires count { before ≡ count_by spec.begins (take from text.now) }
+    ensures clear { spec.Clear class text.now result.0 }
+    ensures chars { result.1 ≡ count_by spec.begins (take result.0 text.now) }
+    ensures bound { result.0 ≤ length text.now }
+{
+    let mut i = from;
+    let mut n = before;
+    'leads: while is_false_lead(text, i) {
+        let (more, count, _) = quiet_bytes(class, &text[i + 1..]);
+        i += 1 + more;
+        n += 1 + count;
+    }
+    (i, n)
+}
+
+/// How many of a line's first bytes end no run, and how many of them begin a character. The byte after them begins one.
+/// The flag says whether what only looks like a break is passed. Without it less is asked at the end of a line.
+#[inline(always)]
+fn quiet_line(class: class_t, text: &[u8], passes: bool) -> (usize, usize)
+    requires { spec.is_line class ≡ true }
+    ensures clear { spec.Clear class text.now result.0 }
+    ensures chars { result.1 ≡ count_by spec.begins (take result.0 text.now) }
+    ensures bound { result.0 ≤ length text.now }
+{
+    let (n, count, there) = quiet_bytes(class, text);
+    if passes && there && text[n] >= 0x80 {
+        return past_leads(class, text, n, count);
+    }
+    (n, count)
 }
 
 /// Which lanes are not from one byte to another.
@@ -315,6 +371,51 @@ fn narrow_run(class: class_t, text: &[u8]) -> usize
     slow_end(class, text, i)
 }
 
+/// How many of a line's first bytes need no closer look.
+#[inline(always)]
+fn line_run(text: &[u8]) -> usize
+    ensures { result ≡ prefix_len (spec.is_quiet IN_LINE) text.now }
+{
+    let mut i: usize = 0;
+    'wide: while text.len() - i >= 16 {
+        let found = stops(class_t::IN_LINE, u8x16::from_slice(&text[i..]));
+        if found != 0 {
+            return i + found.trailing_zeros() as usize;
+        }
+        i += 16;
+    }
+    slow_end(class_t::IN_LINE, text, i)
+}
+
+/// The same as `line_len`, from a place on up to which all is found out.
+#[inline(never)]
+fn past_line_leads(text: &[u8], from: usize) -> usize
+    requires clear { spec.Clear IN_LINE text.now from }
+    requires within { from ≤ length text.now }
+    ensures clear { spec.Clear IN_LINE text.now result }
+    ensures bound { result ≤ length text.now }
+{
+    let mut i = from;
+    'leads: while is_false_lead(text, i) {
+        i += 1 + line_run(&text[i + 1..]);
+    }
+    i
+}
+
+/// How many of the first bytes are in this line, or need no closer look for that. The byte after them begins a
+/// character.
+#[inline(always)]
+pub(crate) fn line_len(text: &[u8]) -> usize
+    ensures clear { spec.Clear IN_LINE text.now result }
+    ensures bound { result ≤ length text.now }
+{
+    let n = line_run(text);
+    if n < text.len() && text[n] >= 0x80 {
+        return past_line_leads(text, n);
+    }
+    n
+}
+
 /// How many spaces the text begins with, which are many.
 #[cold]
 #[inline(never)]
@@ -358,15 +459,17 @@ fn narrow_len(class: class_t, text: &[u8]) -> usize
     }
 }
 
-/// How many of the first bytes need no closer look, and how many of them begin a character.
+/// How many of the first bytes end no run, or need no closer look for that, and how many of them begin a character.
+/// The flag says whether what only looks like a break is passed.
 #[inline(always)]
-pub(crate) fn quiet_len(class: class_t, text: &[u8]) -> (usize, usize)
-    ensures bytes { result.0 ≡ prefix_len (spec.is_quiet class) text.now }
+pub(crate) fn quiet_len(class: class_t, text: &[u8], passes: bool) -> (usize, usize)
+    ensures line { spec.is_line class ≡ true → spec.Clear class text.now result.0 }
+    ensures narrow { spec.is_line class ≡ false → result.0 ≡ prefix_len (spec.is_quiet class) text.now }
     ensures chars { result.1 ≡ count_by spec.begins (take result.0 text.now) }
     ensures bound { result.0 ≤ length text.now }
 {
     if is_line(class) {
-        return quiet_line(class, text);
+        return quiet_line(class, text, passes);
     }
     let n = narrow_len(class, text);
     (n, n)

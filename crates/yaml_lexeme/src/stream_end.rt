@@ -3,6 +3,7 @@ ghost use Rattle.std.specs.Prelude.{◌≡◌, ◌+◌, ◌<◌, ◌^◌, IsOk};
 ghost use Rattle.yaml_lexeme.specs.StreamEnd as spec;
 ghost use Rattle.yaml_lexeme.specs.LexemeOf.{lexeme_of};
 ghost use Rattle.yaml_lexeme.specs.inside.Gives.{Gives};
+ghost use Rattle.yaml_lexeme.specs.Reading.{found};
 
 use crate::lexeme::{whole_of, yaml_lexeme_t};
 use crate::place::cursor_t;
@@ -25,12 +26,20 @@ fn stream_end(mark: yaml_mark_t) -> yaml_mark_t
     }
 }
 
-/// Takes the stream end, which is no character.
+/// The stream end where the cursor is, which is no character.
+#[inline(always)]
+pub(crate) fn stream_end_at(cursor: &cursor_t) -> yaml_lexeme_t
+    ensures { found (lexeme_of result) cursor.now ≡ spec.at_end cursor.now }
+{
+    let mark = stream_end(cursor.mark());
+    whole_of(unnamed_yaml_token_t_data::STREAM_END, mark, mark)
+}
+
+/// Takes the stream end.
 #[inline(never)]
 pub(crate) fn take_stream_end(cursor: &mut cursor_t) -> Result<yaml_lexeme_t, yaml_refusal_t>
     ensures value { Gives lexeme_of result cursor.new (spec.at_end cursor.old) }
     ensures taken { IsOk result }
 {
-    let mark = stream_end(cursor.mark());
-    Ok(whole_of(unnamed_yaml_token_t_data::STREAM_END, mark, mark))
+    Ok(stream_end_at(cursor))
 }

@@ -30,3 +30,11 @@ pub mod SeveralScans
 pub mod HeadGroup
 -- Tokens of the queue that were given to a sink are those that as many scans return, which make no step more.
 pub mod DrainedTokens
+-- A parser that has gone on by some tokens, and then by more, or has shown its next token.
+pub mod KeptGoesOn
+-- The tokens of a kept parser, by the parts that it is scanned with.
+pub mod KeptTokens
+-- A kept parser that gave tokens to a sink has fewer left.
+pub mod KeptFewer
+-- The calls of a kept parser: how they begin, and what they leave.
+pub mod KeptCalls

@@ -42,4 +42,5 @@ pub mod CallMarks
 pub mod Peek
 pub mod ReadingOn
 pub mod Puts
+pub mod KeptCalls
 pub mod inside

@@ -4,6 +4,7 @@ pub mod Opened
 pub mod TextReads
 pub mod Stop
 pub mod Queue
+pub mod Scanner
 pub mod StepFaults
 pub mod StepParts
 pub mod NearFault
@@ -15,3 +16,5 @@ pub mod Ready
 pub mod Shown
 pub mod Kept
 pub mod Sent
+pub mod KeptParts
+pub mod KeptEnds

@@ -35,6 +35,8 @@ impl yaml_token_sink_t for token_list_t {
 
     ghost within = { λ s. Unit {0} };
 
+    ghost lacks = { λ s count texts. Unit {0} };
+
     fn put(&mut self, token: yaml_token_t) -> Result<(), AllocError> {
         self.tokens.push(token)?;
         Ok(())

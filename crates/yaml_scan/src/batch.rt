@@ -9,6 +9,7 @@ ghost use Rattle.yaml_scan.specs.Headline.{Calls};
 ghost use Rattle.yaml_scan.specs.Session.Call.{SCAN};
 ghost use Rattle.yaml_scan.specs.Session.Answer.{FAULT};
 ghost use Rattle.yaml_scan.specs.inside.Ready.{IsReady};
+ghost use Rattle.yaml_scan.specs.inside.Scanner.{scanner_of};
 ghost use Rattle.yaml_scan.specs.inside.Scanning.{IsOpen, IsRunning, groups_in};
 ghost use Rattle.yaml_scan.specs.Words.{HasWords, HaveWords};
 ghost use Rattle.yaml_scan.specs.inside.Given.{told_all};
@@ -20,30 +21,32 @@ use crate::fault::{fault_at, stop_t};
 use crate::groups::{group_t, is_bare};
 use crate::parser::{start, take_head, yaml_parser_t};
 use crate::scanned::yaml_scan_next;
-use crate::scanner::scanner_t;
 use crate::session::{end, is_stream_end, pass};
 use crate::settled::is_settled;
+use crate::state::state_t;
 use crate::step::step_to;
 use crate::target::{count_of, give, give_group, has_room_for, said_len, yaml_token_sink_t};
-use yaml_text::{yaml_encoding_t, yaml_fault_t, yaml_token_t};
+use yaml_text::{yaml_encoding_t, yaml_fault_t, yaml_text_t, yaml_token_t};
 
 /// Makes steps until the head of the queue is the next token, or until the tokens of a step went to the sink. Returns
 /// whether none went there.
 #[inline(always)]
 fn send_or_settle<S: yaml_token_sink_t>(
-    scanner: &mut scanner_t,
+    text: &yaml_text_t,
+    state: &mut state_t,
     sink: &mut S,
 ) -> Result<bool, stop_t>
-    requires runs { IsRunning scanner.old }
-    requires still_open { IsOpen scanner.old }
-    ensures sends { SendsOrSettles scanner.old scanner.new (λ tokens. S.took sink.old tokens sink.new) S.may_refuse
+    requires runs { IsRunning (scanner_of text.now state.old) }
+    requires still_open { IsOpen (scanner_of text.now state.old) }
+    ensures sends { SendsOrSettles (scanner_of text.now state.old) (scanner_of text.now state.new)
+        (λ tokens. S.took sink.old tokens sink.new) S.may_refuse
         result }
     ensures within { IfOk result (λ _. S.within sink.old → S.within sink.new) }
 {
-    let done = scanner.layout.queue.done;
-    'steps: while !is_settled(scanner) {
-        step_to::<true, S>(scanner, sink)?;
-        if scanner.layout.queue.done > done {
+    let done = state.layout.queue.done;
+    'steps: while !is_settled(text, state) {
+        step_to::<true, S>(text, state, sink)?;
+        if state.layout.queue.done > done {
             return Ok(false);
         }
     }
@@ -53,13 +56,13 @@ fn send_or_settle<S: yaml_token_sink_t>(
 /// Whether all tokens of the group at the head of the queue are settled, and the sink has room for them. The stream end
 /// is not among them.
 #[inline(always)]
-fn is_ready<S: yaml_token_sink_t>(scanner: &scanner_t, sink: &S) -> bool
-    requires runs { IsRunning scanner.now }
-    ensures { result ≡ true → (y : group_t) × IsReadyGroup scanner.now y
+fn is_ready<S: yaml_token_sink_t>(_text: &yaml_text_t, state: &state_t, sink: &S) -> bool
+    requires runs { IsRunning (scanner_of _text.now state.now) }
+    ensures { result ≡ true → (y : group_t) × IsReadyGroup (scanner_of _text.now state.now) y
         × (S.within sink.now → (after : S) → S.took sink.now (group_tokens y) after → S.within after) }
 {
-    let queue = &scanner.layout.queue;
-    if queue.early > 0 || scanner.slots.awaited == queue.done + 1 {
+    let queue = &state.layout.queue;
+    if queue.early > 0 || state.slots.awaited == queue.done + 1 {
         return false;
     }
     match queue.groups.front() {
@@ -71,38 +74,43 @@ fn is_ready<S: yaml_token_sink_t>(scanner: &scanner_t, sink: &S) -> bool
 
 /// Takes the group at the head of the queue.
 #[inline(always)]
-fn take_group(scanner: &mut scanner_t) -> group_t
-    requires runs { IsRunning scanner.old }
-    requires still_open { IsOpen scanner.old }
-    requires ready { (y : group_t) × IsReadyGroup scanner.old y }
-    requires words { HaveWords (told_all scanner.old) }
-    ensures head { groups_in scanner.old ≡ result ∷ groups_in scanner.new }
-    ensures drains { Drains scanner.old scanner.new (group_tokens result) }
+fn take_group(_text: &yaml_text_t, state: &mut state_t) -> group_t
+    requires runs { IsRunning (scanner_of _text.now state.old) }
+    requires still_open { IsOpen (scanner_of _text.now state.old) }
+    requires ready { (y : group_t) × IsReadyGroup (scanner_of _text.now state.old) y }
+    requires words { HaveWords (told_all (scanner_of _text.now state.old)) }
+    ensures head { groups_in (scanner_of _text.now state.old) ≡ result ∷ groups_in (scanner_of _text.now state.new) }
+    ensures drains { Drains (scanner_of _text.now state.old) (scanner_of _text.now state.new) (group_tokens result) }
     ensures words { HasWords (token_of result.token).token_data }
 {
-    let group = scanner.layout.queue.groups.pop_front().unwrap();
-    scanner.layout.queue.done += 1;
-    scanner.taken += count_of(&group);
+    let group = state.layout.queue.groups.pop_front().unwrap();
+    state.layout.queue.done += 1;
+    state.taken += count_of(&group);
     group
 }
 
 /// Takes the group at the head of the queue, and gives all of it to a sink. A token that is a group alone goes a way of
 /// its own, so that it is moved once.
 #[inline(always)]
-fn give_head<S: yaml_token_sink_t>(scanner: &mut scanner_t, sink: &mut S) -> Result<(), stop_t>
-    requires runs { IsRunning scanner.old }
-    requires still_open { IsOpen scanner.old }
-    requires ready { (y : group_t) × IsReadyGroup scanner.old y }
-    requires words { HaveWords (told_all scanner.old) }
-    ensures { (y : group_t) × (groups_in scanner.old ≡ y ∷ groups_in scanner.new)
-        × Drains scanner.old scanner.new (group_tokens y)
+fn give_head<S: yaml_token_sink_t>(
+    text: &yaml_text_t,
+    state: &mut state_t,
+    sink: &mut S,
+) -> Result<(), stop_t>
+    requires runs { IsRunning (scanner_of text.now state.old) }
+    requires still_open { IsOpen (scanner_of text.now state.old) }
+    requires ready { (y : group_t) × IsReadyGroup (scanner_of text.now state.old) y }
+    requires words { HaveWords (told_all (scanner_of text.now state.old)) }
+    ensures { (y : group_t)
+        × (groups_in (scanner_of text.now state.old) ≡ y ∷ groups_in (scanner_of text.now state.new))
+        × Drains (scanner_of text.now state.old) (scanner_of text.now state.new) (group_tokens y)
         × Gives (λ tokens. S.took sink.old tokens sink.new) S.may_refuse (group_tokens y) result }
 {
-    if is_bare(&scanner.layout.queue) {
-        let group = take_group(scanner);
+    if is_bare(&state.layout.queue) {
+        let group = take_group(text, state);
         give(sink, group.token)
     } else {
-        let group = take_group(scanner);
+        let group = take_group(text, state);
         give_group(sink, group)
     }
 }
@@ -110,17 +118,18 @@ fn give_head<S: yaml_token_sink_t>(scanner: &mut scanner_t, sink: &mut S) -> Res
 /// Gives groups from the head of the queue to a sink, while all tokens of the group there are settled and the sink has
 /// room for them. Returns whether it gave any.
 #[inline(always)]
-fn drain<S: yaml_token_sink_t>(scanner: &mut scanner_t, sink: &mut S) -> bool
-    requires runs { IsRunning scanner.old }
-    requires still_open { IsOpen scanner.old }
-    requires words { HaveWords (told_all scanner.old) }
+fn drain<S: yaml_token_sink_t>(text: &yaml_text_t, state: &mut state_t, sink: &mut S) -> bool
+    requires runs { IsRunning (scanner_of text.now state.old) }
+    requires still_open { IsOpen (scanner_of text.now state.old) }
+    requires words { HaveWords (told_all (scanner_of text.now state.old)) }
     requires takes { S.may_refuse → ⊥ }
-    ensures drains { DrainsOrStays scanner.old scanner.new (λ tokens. S.took sink.old tokens sink.new) result }
+    ensures drains { DrainsOrStays (scanner_of text.now state.old) (scanner_of text.now state.new)
+        (λ tokens. S.took sink.old tokens sink.new) result }
     ensures within { S.within sink.old → S.within sink.new }
 {
     let mut any = false;
-    'groups: while is_ready(scanner, sink) {
-        match give_head(scanner, sink) {
+    'groups: while is_ready(text, state, sink) {
+        match give_head(text, state, sink) {
             Ok(_) => any = true,
             Err(_) => unreachable!(),
         }
@@ -128,27 +137,47 @@ fn drain<S: yaml_token_sink_t>(scanner: &mut scanner_t, sink: &mut S) -> bool
     any
 }
 
-/// Makes the first step, if it was not made, and the steps that the next token needs, or has the tokens of a step go to
-/// the sink. Once the next token is in the queue, it goes there with all of its group, and so do those after it, if
-/// they need not wait either. Returns whether no token went there.
+/// Makes the steps that the next token needs, or has the tokens of a step go to the sink. Once the next token is in the
+/// queue, it goes there with all of its group, and so do those after it, if they need not wait either. Returns whether
+/// no token went there.
+#[inline(always)]
+pub(crate) fn send_on<S: yaml_token_sink_t>(
+    text: &yaml_text_t,
+    state: &mut state_t,
+    sink: &mut S,
+) -> Result<bool, stop_t>
+    requires runs { IsRunning (scanner_of text.now state.old) }
+    requires still_open { IsOpen (scanner_of text.now state.old) }
+    requires words { HaveWords (told_all (scanner_of text.now state.old)) }
+    requires takes { S.may_refuse → ⊥ }
+    ensures sends { SendsOrSettles (scanner_of text.now state.old) (scanner_of text.now state.new)
+        (λ tokens. S.took sink.old tokens sink.new) S.may_refuse result }
+    ensures within { IfOk result (λ _. S.within sink.old → S.within sink.new) }
+{
+    if !send_or_settle(text, state, sink)? {
+        return Ok(false);
+    }
+    Ok(!drain(text, state, sink))
+}
+
+/// Makes the first step, if it was not made, and then has tokens go to the sink, or makes the steps that the next token
+/// needs. Returns whether no token went there.
 #[inline(always)]
 fn send<'a, S: yaml_token_sink_t>(
-    scanner: &mut scanner_t<'a>,
+    text: &mut yaml_text_t<'a>,
+    state: &mut state_t,
     input: &'a [u8],
     setting: yaml_encoding_t,
     sink: &mut S,
 ) -> Result<bool, stop_t>
-    requires ready { IsReady setting input.now scanner.old }
+    requires ready { IsReady setting input.now (scanner_of text.old state.old) }
     requires takes { S.may_refuse → ⊥ }
-    ensures sends { HasSentOrSettled setting input.now scanner.old scanner.new
+    ensures sends { HasSentOrSettled setting input.now (scanner_of text.old state.old) (scanner_of text.new state.new)
         (λ tokens. S.took sink.old tokens sink.new) S.may_refuse result }
     ensures within { IfOk result (λ _. S.within sink.old → S.within sink.new) }
 {
-    start(scanner, input, setting)?;
-    if !send_or_settle(scanner, sink)? {
-        return Ok(false);
-    }
-    Ok(!drain(scanner, sink))
+    start(text, state, input, setting)?;
+    send_on(text, state, sink)
 }
 
 /// A token that is returned. This is called and not inlined, since else what goes to the sink is put together a few
@@ -208,18 +237,24 @@ pub fn yaml_scan_next_to<S: yaml_token_sink_t>(
             Err(fault) => Err(fault),
         };
     }
-    let settled = match send(&mut parser.scanner, parser.input, parser.setting, sink) {
+    let settled = match send(
+        &mut parser.text,
+        &mut parser.state,
+        parser.input,
+        parser.setting,
+        sink,
+    ) {
         Ok(settled) => settled,
         Err(stop) => {
-            let fault = fault_at(stop, &parser.scanner.kept);
-            end(&mut parser.session, fault);
+            let fault = fault_at(stop, &parser.state.fault);
+            end(&mut parser.session, &mut parser.state.fault, fault);
             return Err(fault);
         }
     };
     if !settled {
         return Ok(None);
     }
-    let token = take_head(&mut parser.scanner);
+    let token = take_head(&parser.text, &mut parser.state);
     pass(&mut parser.session, &token);
     Ok(put_or_return(sink, token))
 }

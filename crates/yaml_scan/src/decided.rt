@@ -6,6 +6,7 @@ ghost use Rattle.std.specs.Prelude.{if◌then◌else◌, vec_len};
 ghost use Rattle.std.specs.Vec.{vec_capacity};
 ghost use Rattle.std.specs.VecDeque.{deque_capacity};
 ghost use Rattle.yaml_lexeme.specs.LexemeOf.{lexeme_of};
+ghost use Rattle.yaml_text.specs.Text.{Text};
 ghost use Rattle.yaml_scan.specs.Laid.{Laid};
 ghost use Rattle.yaml_scan.specs.Falling.{IsFalling};
 ghost use Rattle.yaml_scan.specs.declared.groups.block_t.TheVariants.{MAPPING, NONE};
@@ -20,6 +21,7 @@ ghost use Rattle.yaml_scan.specs.Groups.Token.{BlockEnd};
 ghost use Rattle.yaml_scan.specs.Kind.{is_flow_start, is_stream_end};
 ghost use Rattle.yaml_scan.specs.Levels.{stays};
 ghost use Rattle.yaml_scan.specs.inside.Queue.{ends_at};
+ghost use Rattle.yaml_scan.specs.inside.Scanner.{scanner_of};
 ghost use Rattle.yaml_scan.specs.inside.Scanning.{CanLayAll, IsDecided, IsUndecided, LaysTwo, groups_in};
 ghost use Rattle.yaml_scan.specs.inside.Slots.{nested_outer, nested_top};
 
@@ -29,7 +31,7 @@ use crate::keys::is_still_live;
 use crate::kind::is_candidate;
 use crate::levels::{close_levels, closing, is_new_level, open_level};
 use crate::met::step_t;
-use crate::scanner::scanner_t;
+use crate::state::state_t;
 use yaml_lexeme::yaml_lexeme_kind_t;
 use yaml_text::yaml_mark_t;
 
@@ -54,26 +56,21 @@ fn keeps_levels(levels: &[u64], in_flow: bool, kind: yaml_lexeme_kind_t, start: 
 /// and no other token is before it. If `sparing`, its step closes no level, so that its token comes next. There is room
 /// for both.
 #[inline(always)]
-pub(crate) fn is_undecided(
-    scanner: &scanner_t,
-    sparing: bool,
-    step: step_t,
-    reach: yaml_mark_t,
-) -> bool
-    ensures { result ≡ true → IsUndecided scanner.now sparing step reach }
+pub(crate) fn is_undecided(state: &state_t, sparing: bool, step: step_t, reach: yaml_mark_t) -> bool
+    ensures { (text : Text) → result ≡ true → IsUndecided (scanner_of text state.now) sparing step reach }
 {
     is_candidate(step.kind)
         && !is_flow_start(step.kind)
         && step.allowed
-        && has_room_for_two(&scanner.layout.queue)
+        && has_room_for_two(&state.layout.queue)
         && (!sparing
             || keeps_levels(
-                &scanner.layout.levels,
+                &state.layout.levels,
                 step.in_flow,
                 step.kind,
                 step.new.start,
             ))
-        && is_still_live(scanner.limit, reach, step.new)
+        && is_still_live(state.limit, reach, step.new)
 }
 
 /// The start of a block mapping, or none.

@@ -90,12 +90,15 @@ pub(crate) fn stopped(stop: stop_t) -> stop_t
 }
 
 /// The fault of a stop, if that is not by the sink.
-pub(crate) fn fault_at(stop: stop_t, kept: &yaml_fault_t) -> yaml_fault_t
+pub(crate) fn fault_at(stop: stop_t, kept: &Option<yaml_fault_t>) -> yaml_fault_t
     ensures { fault_of result ≡ fault_at stop kept.now }
 {
     match stop {
         stop_t::MEMORY => make_memory_fault(),
-        stop_t::FAULT => *kept,
+        stop_t::FAULT => match kept {
+            Some(fault) => *fault,
+            None => make_bare_fault(yaml_error_type_t::YAML_NO_ERROR),
+        },
         stop_t::SINK => make_bare_fault(yaml_error_type_t::YAML_NO_ERROR),
     }
 }

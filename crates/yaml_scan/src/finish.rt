@@ -4,15 +4,16 @@ ghost use Rattle.yaml_text.specs.declared.token.yaml_token_t.{yaml_token_t as co
 ghost use Rattle.yaml_text.specs.declared.types.yaml_mark_t.{yaml_mark_t};
 ghost use Rattle.yaml_text.specs.Token.{TokenData, data_of, token_of};
 ghost use Rattle.yaml_lexeme.specs.Lexeme.{Lexeme};
+ghost use Rattle.yaml_text.specs.Text.{Text};
 ghost use Rattle.yaml_scan.specs.Sink.{said_len};
 ghost use Rattle.yaml_scan.specs.declared.groups.group_t.{group_t};
 ghost use Rattle.yaml_lexeme.specs.LexemeOf.{lexeme_of};
 ghost use Rattle.yaml_lexeme.specs.Counted.{IsMarkOf};
 ghost use Rattle.yaml_scan.specs.Laid.{Laid};
-ghost use Rattle.yaml_scan.specs.declared.scanner.scanner_t.{scanner_t};
 ghost use Rattle.yaml_scan.specs.Kind.{is_stream_end};
 ghost use Rattle.yaml_scan.specs.inside.Handed.{FindsRoom, IsLaidAlone, IsReadTo, IsTokenOf, LaysTo};
 ghost use Rattle.yaml_scan.specs.inside.Handed.{StepsTo, WasLaid, group_tokens, group_with, read_to};
+ghost use Rattle.yaml_scan.specs.inside.Scanner.{Scanner, scanner_of};
 ghost use Rattle.yaml_scan.specs.inside.Scanning.{CanLayAll, CanRead, IsReadIn, IsStep, Refuses};
 ghost use Rattle.yaml_scan.specs.inside.TextReads.{IsRead};
 
@@ -24,14 +25,14 @@ use crate::kind::is_last;
 use crate::lay::{lay_lexeme, token_of};
 use crate::look::root_after;
 use crate::met::step_t;
-use crate::scanner::scanner_t;
+use crate::state::state_t;
 use crate::stop::{stop_after, stop_in_lexeme};
 use crate::target::{
     hand_keyless, hand_on, hand_token, has_room_for, has_room_for_both, no_sink_t, said_len,
     yaml_token_sink_t,
 };
 use yaml_lexeme::{yaml_lexeme_kind_t, yaml_lexeme_t, yaml_refusal_t};
-use yaml_text::{yaml_mark_t, yaml_token_t};
+use yaml_text::{yaml_mark_t, yaml_text_t, yaml_token_t};
 
 /// What a step has laid, and has not handed on yet. Its token goes with it.
 #[derive(Drop)]
@@ -53,22 +54,22 @@ pub(crate) struct laid_t {
 /// bytes.
 #[inline(always)]
 fn has_to_wait<S: yaml_token_sink_t>(
-    scanner: &scanner_t,
+    state: &state_t,
     sink: &S,
     kind: yaml_lexeme_kind_t,
     ends: usize,
     texts: u128,
 ) -> bool
     ensures last { result ≡ false → is_stream_end kind ≡ false }
-    ensures awaited { result ≡ false → scanner.now.slots.awaited ≡ 0 }
-    ensures lone { result ≡ false → scanner.now.layout.queue.groups.items ≡ [] }
+    ensures awaited { result ≡ false → state.now.slots.awaited ≡ 0 }
+    ensures lone { result ≡ false → state.now.layout.queue.groups.items ≡ [] }
     ensures room { result ≡ false → S.within sink.now → (group : group_t) (after : S) → group.ends ≡ ends
         → said_len (token_of group.token).token_data ≤ texts → S.took sink.now (group_tokens group) after
         → S.within after }
 {
     is_last(kind)
-        || scanner.slots.awaited > 0
-        || !scanner.layout.queue.groups.is_empty()
+        || state.slots.awaited > 0
+        || !state.layout.queue.groups.is_empty()
         || !has_room_for(sink, ends, texts)
 }
 
@@ -76,7 +77,7 @@ fn has_to_wait<S: yaml_token_sink_t>(
 /// its group hands out, what that opens, and whether it has to wait.
 #[inline(always)]
 fn lay_alone<S: yaml_token_sink_t>(
-    scanner: &mut scanner_t,
+    state: &mut state_t,
     sink: &S,
     step: step_t,
     reach: yaml_mark_t,
@@ -84,15 +85,18 @@ fn lay_alone<S: yaml_token_sink_t>(
     texts: u128,
 ) -> (usize, block_t, bool)
     ghost before: { List Laid }
-    requires { (x : Lexeme) × (IsReadTo x reach passed_break × CanLayAll before scanner.old step x) }
-    ensures laid { (d : TokenData) (b e : yaml_mark_t) (t : code_token_t)
-        → CanLayAll before scanner.old step (read_to d b e reach passed_break) → IsTokenOf t d step.new.start e
-        → IsLaidAlone before scanner.old scanner.new step.kind result.2 (group_with result.0 result.1 false t) }
+    requires { (text : Text) × (x : Lexeme) × (IsReadTo x reach passed_break
+        × CanLayAll before (scanner_of text state.old) step x) }
+    ensures laid { (text : Text) (d : TokenData) (b e : yaml_mark_t) (t : code_token_t)
+        → CanLayAll before (scanner_of text state.old) step (read_to d b e reach passed_break)
+        → IsTokenOf t d step.new.start e
+        → IsLaidAlone before (scanner_of text state.old) (scanner_of text state.new) step.kind result.2
+        (group_with result.0 result.1 false t) }
     ensures room { result.2 ≡ false → S.within sink.now → (t : code_token_t) → said_len (token_of t).token_data ≤ texts
         → (after : S) → S.took sink.now (group_tokens (group_with result.0 result.1 false t)) after → S.within after }
 {
-    let (ends, opens) = lay_lexeme(scanner, step, reach, passed_break);
-    let waits = has_to_wait(scanner, sink, step.kind, ends, texts);
+    let (ends, opens) = lay_lexeme(state, step, reach, passed_break);
+    let waits = has_to_wait(state, sink, step.kind, ends, texts);
     (ends, opens, waits)
 }
 
@@ -108,7 +112,8 @@ fn is_queued(waits: bool, direct: bool) -> bool
 /// both. Its texts have so many bytes.
 #[inline(always)]
 fn lay_all<const DIRECT: bool, S: yaml_token_sink_t>(
-    scanner: &mut scanner_t,
+    text: &yaml_text_t,
+    state: &mut state_t,
     sink: &S,
     step: step_t,
     reach: yaml_mark_t,
@@ -116,17 +121,19 @@ fn lay_all<const DIRECT: bool, S: yaml_token_sink_t>(
     texts: u128,
 ) -> laid_t
     ghost before: { List Laid }
-    requires { (x : Lexeme) × (IsReadTo x reach passed_break × CanLayAll before scanner.old step x) }
+    requires { (x : Lexeme) × (IsReadTo x reach passed_break × CanLayAll before
+        (scanner_of text.now state.old) step x) }
     ensures laid { (d : TokenData) (b e : yaml_mark_t) (t : code_token_t)
-        → CanLayAll before scanner.old step (read_to d b e reach passed_break) → IsTokenOf t d step.new.start e
-        → WasLaid before scanner.old scanner.new DIRECT result t }
+        → CanLayAll before (scanner_of text.now state.old) step (read_to d b e reach passed_break)
+        → IsTokenOf t d step.new.start e
+        → WasLaid before (scanner_of text.now state.old) (scanner_of text.now state.new) DIRECT result t }
     ensures room { FindsRoom result texts (S.within sink.now) (λ tokens. (after : S) → S.took sink.now tokens after
         → S.within after) }
 {
-    let direct = has_room_for_both::<DIRECT, S>(sink, &scanner.layout.levels, texts);
-    match follower_of(scanner, !direct, step, reach) {
+    let direct = has_room_for_both::<DIRECT, S>(sink, &state.layout.levels, texts);
+    match follower_of(text, state, !direct, step, reach) {
         Some(follower) => {
-            let (ends, opens, key) = lay_followed(scanner, step, reach, &follower);
+            let (ends, opens, key) = lay_followed(state, step, reach, &follower);
             laid_t {
                 ends,
                 opens,
@@ -136,7 +143,7 @@ fn lay_all<const DIRECT: bool, S: yaml_token_sink_t>(
             }
         }
         None => {
-            let (ends, opens, waits) = lay_alone(scanner, sink, step, reach, passed_break, texts);
+            let (ends, opens, waits) = lay_alone(state, sink, step, reach, passed_break, texts);
             laid_t {
                 ends,
                 opens,
@@ -150,24 +157,25 @@ fn lay_all<const DIRECT: bool, S: yaml_token_sink_t>(
 
 /// Stops if the lexeme of a step, which was read, reaches near the reader's fault, or if a candidate is lost there.
 #[inline(always)]
-fn check_reach(scanner: &mut scanner_t, step: step_t, lexeme: &yaml_lexeme_t) -> Result<(), stop_t>
+fn check_reach(
+    text: &yaml_text_t,
+    state: &mut state_t,
+    step: step_t,
+    lexeme: &yaml_lexeme_t,
+) -> Result<(), stop_t>
     ghost before: { List Laid }
-    requires { CanRead before scanner.old step × ((p : ℕ) → IsMarkOf scanner.old.text.chars scanner.old.front p
-        → IsRead scanner.old.text.chars step.kind step.context.depth step.context.level p (lexeme_of lexeme.now)) }
+    requires { CanRead before (scanner_of text.now state.old) step
+        × ((p : ℕ) → IsMarkOf text.now.chars state.old.front p
+        → IsRead text.now.chars step.kind step.context.depth step.context.level p (lexeme_of lexeme.now)) }
     ensures { MatchResult result
-        (λ _. (scanner.new ≡ scanner.old) × CanLayAll before scanner.old step (lexeme_of lexeme.now))
-        (λ stop. Refuses before scanner.old scanner.new stop) }
+        (λ _. (state.new ≡ state.old) × CanLayAll before (scanner_of text.now state.old) step (lexeme_of lexeme.now))
+        (λ stop. Refuses before (scanner_of text.now state.old) (scanner_of text.now state.new) stop) }
 {
     let reach = lexeme.reach;
-    let lost = is_lost(
-        root_after(scanner, step),
-        step.in_flow,
-        scanner.limit,
-        reach,
-    );
-    if scanner.near <= reach.index || lost {
-        scanner.there = reach;
-        return Err(stop_after(scanner, step.in_flow, step.kind, step.allowed));
+    let lost = is_lost(root_after(state, step), step.in_flow, state.limit, reach);
+    if state.near <= reach.index || lost {
+        state.there = reach;
+        return Err(stop_after(text, state, step.in_flow, step.kind, step.allowed));
     }
     Ok(())
 }
@@ -176,33 +184,36 @@ fn check_reach(scanner: &mut scanner_t, step: step_t, lexeme: &yaml_lexeme_t) ->
 /// the reader's fault, or a candidate is lost.
 #[inline(always)]
 pub(crate) fn end_character<const DIRECT: bool, S: yaml_token_sink_t>(
-    scanner: &mut scanner_t,
+    text: &yaml_text_t,
+    state: &mut state_t,
     sink: &mut S,
     step: step_t,
     lexeme: yaml_lexeme_t,
 ) -> Result<(), stop_t>
     ghost before: { List Laid }
-    requires { CanRead before scanner.old step × ((p : ℕ) → IsMarkOf scanner.old.text.chars scanner.old.front p
-        → IsRead scanner.old.text.chars step.kind step.context.depth step.context.level p (lexeme_of lexeme)) }
-    ensures steps { StepsTo before scanner.old scanner.new DIRECT (λ tokens. S.took sink.old tokens sink.new)
+    requires { CanRead before (scanner_of text.now state.old) step
+        × ((p : ℕ) → IsMarkOf text.now.chars state.old.front p
+        → IsRead text.now.chars step.kind step.context.depth step.context.level p (lexeme_of lexeme)) }
+    ensures steps { StepsTo before (scanner_of text.now state.old) (scanner_of text.now state.new) DIRECT
+        (λ tokens. S.took sink.old tokens sink.new)
         S.may_refuse result }
     ensures within { OnOk result (S.within sink.old → S.within sink.new) }
 {
-    match check_reach(scanner, step, &lexeme) {
+    match check_reach(text, state, step, &lexeme) {
         Ok(_) => {
             let texts = said_len(&lexeme.token_data);
             let reach = lexeme.reach;
             let passed_break = lexeme.passed_break;
-            let (ends, opens, waits) = lay_alone(scanner, sink, step, reach, passed_break, texts);
+            let (ends, opens, waits) = lay_alone(state, sink, step, reach, passed_break, texts);
             let group = group_t {
                 ends,
                 opens,
                 key: false,
                 token: token_of(step.new.start, lexeme),
             };
-            match hand_keyless::<DIRECT, S>(scanner, sink, waits, group) {
+            match hand_keyless::<DIRECT, S>(state, sink, waits, group) {
                 Ok(_) => {
-                    scanner.made += 1;
+                    state.made += 1;
                     Ok(())
                 }
                 Err(stop) => Err(stopped(stop)),
@@ -216,25 +227,28 @@ pub(crate) fn end_character<const DIRECT: bool, S: yaml_token_sink_t>(
 /// reader's fault, or if a candidate is lost.
 #[inline(always)]
 pub(crate) fn lay_read<const DIRECT: bool, S: yaml_token_sink_t>(
-    scanner: &mut scanner_t,
+    text: &yaml_text_t,
+    state: &mut state_t,
     sink: &S,
     step: step_t,
     read: Result<yaml_lexeme_t, yaml_refusal_t>,
 ) -> Result<(laid_t, yaml_token_t), stop_t>
     ghost before: { List Laid }
-    requires { CanRead before scanner.old step
-        × IsReadIn scanner.old step.kind step.context scanner.old.there read }
-    ensures laid { MatchResult result (λ r. WasLaid before scanner.old scanner.new DIRECT r.0 r.1)
-        (λ stop. Refuses before scanner.old scanner.new stop) }
+    requires { CanRead before (scanner_of text.now state.old) step
+        × IsReadIn (scanner_of text.now state.old) step.kind step.context state.old.there read }
+    ensures laid { MatchResult result (λ r. WasLaid before (scanner_of text.now state.old)
+        (scanner_of text.now state.new) DIRECT r.0 r.1)
+        (λ stop. Refuses before (scanner_of text.now state.old) (scanner_of text.now state.new) stop) }
     ensures room { IfOk result (λ r. FindsRoom r.0 (said_len (data_of r.1.token_data)) (S.within sink.now) (λ tokens.
         (after : S) → S.took sink.now tokens after → S.within after)) }
 {
     match read {
-        Ok(lexeme) => match check_reach(scanner, step, &lexeme) {
+        Ok(lexeme) => match check_reach(text, state, step, &lexeme) {
             Ok(_) => {
                 let texts = said_len(&lexeme.token_data);
                 let laid = lay_all::<DIRECT, S>(
-                    scanner,
+                    text,
+                    state,
                     sink,
                     step,
                     lexeme.reach,
@@ -245,23 +259,26 @@ pub(crate) fn lay_read<const DIRECT: bool, S: yaml_token_sink_t>(
             }
             Err(stop) => Err(stopped(stop)),
         },
-        Err(refusal) => Err(stop_in_lexeme(scanner, step.kind, refusal)),
+        Err(refusal) => Err(stop_in_lexeme(text, state, step.kind, refusal)),
     }
 }
 
 /// Hands on what a step has laid, with its token. Returns how many steps that makes.
 #[inline(always)]
 fn hand_laid<const DIRECT: bool, S: yaml_token_sink_t>(
-    scanner: &mut scanner_t,
+    state: &mut state_t,
     sink: &mut S,
     laid: laid_t,
     token: yaml_token_t,
 ) -> Result<u64, stop_t>
-    requires laid { (before : List Laid) × ((start : scanner_t) × WasLaid before start scanner.old DIRECT laid token) }
+    requires laid { (text : Text) × (before : List Laid) × ((start : Scanner) × WasLaid before start
+        (scanner_of text state.old) DIRECT laid token) }
     requires room { FindsRoom laid (said_len (data_of token.token_data)) (S.within sink.old) (λ tokens. (after : S)
         → S.took sink.old tokens after → S.within after) }
-    ensures steps { (before : List Laid) (start : scanner_t) → WasLaid before start scanner.old DIRECT laid token
-        → LaysTo before start scanner.new DIRECT (λ tokens. S.took sink.old tokens sink.new) S.may_refuse result }
+    ensures steps { (text : Text) (before : List Laid) (start : Scanner) → WasLaid before start
+        (scanner_of text state.old) DIRECT laid token
+        → LaysTo before start (scanner_of text state.new) DIRECT (λ tokens. S.took sink.old tokens sink.new)
+        S.may_refuse result }
     ensures within { OnOk result (S.within sink.old → S.within sink.new) }
 {
     let laid_t {
@@ -277,9 +294,9 @@ fn hand_laid<const DIRECT: bool, S: yaml_token_sink_t>(
         key,
         token,
     };
-    match hand_on::<DIRECT, S>(scanner, sink, waits, group) {
+    match hand_on::<DIRECT, S>(state, sink, waits, group) {
         Ok(_) => match decider {
-            Some(second) => match hand_token::<DIRECT, S>(scanner, sink, waits, second) {
+            Some(second) => match hand_token::<DIRECT, S>(state, sink, waits, second) {
                 Ok(_) => Ok(2),
                 Err(stop) => Err(stopped(stop)),
             },
@@ -292,21 +309,24 @@ fn hand_laid<const DIRECT: bool, S: yaml_token_sink_t>(
 /// Ends a step with what it has laid, and hands that on, with its token.
 #[inline(always)]
 pub(crate) fn end_laid<const DIRECT: bool, S: yaml_token_sink_t>(
-    scanner: &mut scanner_t,
+    state: &mut state_t,
     sink: &mut S,
     laid: laid_t,
     token: yaml_token_t,
 ) -> Result<(), stop_t>
-    requires laid { (before : List Laid) × ((start : scanner_t) × WasLaid before start scanner.old DIRECT laid token) }
+    requires laid { (text : Text) × (before : List Laid) × ((start : Scanner) × WasLaid before start
+        (scanner_of text state.old) DIRECT laid token) }
     requires room { FindsRoom laid (said_len (data_of token.token_data)) (S.within sink.old) (λ tokens. (after : S)
         → S.took sink.old tokens after → S.within after) }
-    ensures steps { (before : List Laid) (start : scanner_t) → WasLaid before start scanner.old DIRECT laid token
-        → StepsTo before start scanner.new DIRECT (λ tokens. S.took sink.old tokens sink.new) S.may_refuse result }
+    ensures steps { (text : Text) (before : List Laid) (start : Scanner) → WasLaid before start
+        (scanner_of text state.old) DIRECT laid token
+        → StepsTo before start (scanner_of text state.new) DIRECT (λ tokens. S.took sink.old tokens sink.new)
+        S.may_refuse result }
     ensures within { OnOk result (S.within sink.old → S.within sink.new) }
 {
-    match hand_laid::<DIRECT, S>(scanner, sink, laid, token) {
+    match hand_laid::<DIRECT, S>(state, sink, laid, token) {
         Ok(made) => {
-            scanner.made += made;
+            state.made += made;
             Ok(())
         }
         Err(stop) => Err(stopped(stop)),
@@ -316,29 +336,50 @@ pub(crate) fn end_laid<const DIRECT: bool, S: yaml_token_sink_t>(
 /// Lays what was read for a step whose groups go into the queue. Returns what was laid, and its token.
 #[inline(always)]
 pub(crate) fn lay_queued(
-    scanner: &mut scanner_t,
+    text: &yaml_text_t,
+    state: &mut state_t,
     step: step_t,
     read: Result<yaml_lexeme_t, yaml_refusal_t>,
 ) -> Result<(laid_t, yaml_token_t), stop_t>
     ghost before: { List Laid }
-    requires { CanRead before scanner.old step
-        × IsReadIn scanner.old step.kind step.context scanner.old.there read }
-    ensures { MatchResult result (λ r. WasLaid before scanner.old scanner.new false r.0 r.1)
-        (λ stop. Refuses before scanner.old scanner.new stop) }
+    requires { CanRead before (scanner_of text.now state.old) step
+        × IsReadIn (scanner_of text.now state.old) step.kind step.context state.old.there read }
+    ensures { MatchResult result (λ r. WasLaid before (scanner_of text.now state.old)
+        (scanner_of text.now state.new) false r.0 r.1)
+        (λ stop. Refuses before (scanner_of text.now state.old) (scanner_of text.now state.new) stop) }
 {
-    lay_read::<false, no_sink_t>(scanner, &no_sink_t {}, step, read)
+    lay_read::<false, no_sink_t>(text, state, &no_sink_t {}, step, read)
 }
 
 /// Ends a step with what it has laid, which goes into the queue with its token.
 #[inline(always)]
 pub(crate) fn end_laid_queued(
-    scanner: &mut scanner_t,
+    state: &mut state_t,
     laid: laid_t,
     token: yaml_token_t,
 ) -> Result<(), stop_t>
-    requires { (before : List Laid) × ((start : scanner_t) × WasLaid before start scanner.old false laid token) }
-    ensures { (before : List Laid) (start : scanner_t) → WasLaid before start scanner.old false laid token
-        → IsStep before start scanner.new result }
+    requires { (text : Text) × (before : List Laid) × ((start : Scanner) × WasLaid before start
+        (scanner_of text state.old) false laid token) }
+    ensures { (text : Text) (before : List Laid) (start : Scanner) → WasLaid before start
+        (scanner_of text state.old) false laid token
+        → IsStep before start (scanner_of text state.new) result }
 {
-    end_laid::<false, no_sink_t>(scanner, &mut no_sink_t {}, laid, token)
+    end_laid::<false, no_sink_t>(state, &mut no_sink_t {}, laid, token)
+}
+
+/// Ends a step with a lexeme that was read and needs nothing of what comes after it. Its group goes into the queue.
+#[inline(always)]
+pub(crate) fn end_queued(
+    text: &yaml_text_t,
+    state: &mut state_t,
+    step: step_t,
+    lexeme: yaml_lexeme_t,
+) -> Result<(), stop_t>
+    ghost before: { List Laid }
+    requires { CanRead before (scanner_of text.now state.old) step
+        × ((p : ℕ) → IsMarkOf text.now.chars state.old.front p
+        → IsRead text.now.chars step.kind step.context.depth step.context.level p (lexeme_of lexeme)) }
+    ensures { IsStep before (scanner_of text.now state.old) (scanner_of text.now state.new) result }
+{
+    end_character::<false, no_sink_t>(text, state, &mut no_sink_t {}, step, lexeme)
 }

@@ -9,6 +9,7 @@ ghost use Rattle.yaml_lexeme.specs.LexemeOf.{lexeme_of};
 ghost use Rattle.yaml_text.specs.declared.token.yaml_token_t.{yaml_token_t as code_token_t};
 ghost use Rattle.yaml_text.specs.declared.types.yaml_mark_t.{yaml_mark_t};
 ghost use Rattle.yaml_text.specs.Token.{TokenData};
+ghost use Rattle.yaml_text.specs.Text.{Text};
 ghost use Rattle.yaml_scan.specs.Falling.{IsFalling};
 ghost use Rattle.yaml_scan.specs.Groups.Token.{BlockEnd};
 ghost use Rattle.yaml_scan.specs.Kind.{is_candidate_kind, is_flow_start, is_stream_end, is_value};
@@ -18,6 +19,7 @@ ghost use Rattle.yaml_scan.specs.inside.Opened.{is_new};
 ghost use Rattle.yaml_scan.specs.inside.Queue.{ends_at};
 ghost use Rattle.yaml_scan.specs.Laid.{Laid};
 ghost use Rattle.yaml_scan.specs.inside.Handed.{IsTokenOf, group_with, lone, read_to};
+ghost use Rattle.yaml_scan.specs.inside.Scanner.{scanner_of};
 ghost use Rattle.yaml_scan.specs.inside.Scanning.{CanLayAll, IsFollower, IsFollowed, LaysTwo, groups_in};
 ghost use Rattle.yaml_scan.specs.inside.Slots.{Held, is_live, nested_outer, nested_top};
 
@@ -27,12 +29,12 @@ use crate::depth::nest;
 use crate::groups::block_t;
 use crate::kind::is_colon;
 use crate::met::step_t;
-use crate::scanner::scanner_t;
 use crate::slots::slots_t;
 use crate::source::{decider_at, decider_t};
+use crate::state::state_t;
 use crate::waiting::{is_outer_live, waits};
 use yaml_lexeme::yaml_lexeme_kind_t;
-use yaml_text::yaml_mark_t;
+use yaml_text::{yaml_mark_t, yaml_text_t};
 
 /// What comes right after a lexeme.
 #[derive(Drop)]
@@ -46,13 +48,13 @@ pub(crate) struct follower_t {
 /// Whether the next token needs what comes right after the lexeme of a step, which was read up to a mark: `None` if it
 /// may not, and else whether both have to wait until a candidate of an outer depth is decided.
 #[inline(always)]
-fn followed_by(scanner: &scanner_t, sparing: bool, step: step_t, reach: yaml_mark_t) -> Option<bool>
-    requires { scanner.now.layout.queue.done + 1 < 2 ^ 64 }
-    ensures { IfSome result (λ w. IsFollowed scanner.now sparing step reach w) }
+fn followed_by(state: &state_t, sparing: bool, step: step_t, reach: yaml_mark_t) -> Option<bool>
+    requires { state.now.layout.queue.done + 1 < 2 ^ 64 }
+    ensures { (text : Text) → IfSome result (λ w. IsFollowed (scanner_of text state.now) sparing step reach w) }
 {
-    if is_undecided(scanner, sparing, step, reach) {
+    if is_undecided(state, sparing, step, reach) {
         Some(false)
-    } else if waits(scanner, step, reach) {
+    } else if waits(state, step, reach) {
         Some(true)
     } else {
         None
@@ -62,31 +64,32 @@ fn followed_by(scanner: &scanner_t, sparing: bool, step: step_t, reach: yaml_mar
 /// Whether what comes right after a lexeme, and was read up to a mark, is not near the reader's fault, and leaves the
 /// candidates of the outer depths live, if both have to wait until one of them is decided.
 #[inline(always)]
-fn may_follow(scanner: &scanner_t, waits: bool, there: yaml_mark_t) -> bool
-    ensures far { result ≡ true → there.index < scanner.now.near }
-    ensures live { result ≡ true → waits ≡ true → (h : Held) × ((slice_get scanner.now.slots.outer.items
-        scanner.now.slots.not_simple_keys ≡ Some (Some h)) × (is_live scanner.now.limit there h ≡ true)) }
+fn may_follow(state: &state_t, waits: bool, there: yaml_mark_t) -> bool
+    ensures far { result ≡ true → there.index < state.now.near }
+    ensures live { result ≡ true → waits ≡ true → (h : Held) × ((slice_get state.now.slots.outer.items
+        state.now.slots.not_simple_keys ≡ Some (Some h)) × (is_live state.now.limit there h ≡ true)) }
 {
-    there.index < scanner.near && (!waits || is_outer_live(&scanner.slots, scanner.limit, there))
+    there.index < state.near && (!waits || is_outer_live(&state.slots, state.limit, there))
 }
 
 /// What comes right after the lexeme of a step, if the next token needs the steps of both, and both can be made at
 /// once. The lexeme was met, and read up to `reach`.
 #[inline(always)]
 pub(crate) fn follower_of(
-    scanner: &scanner_t,
+    text: &yaml_text_t,
+    state: &state_t,
     sparing: bool,
     step: step_t,
     reach: yaml_mark_t,
 ) -> Option<follower_t>
-    requires done { scanner.now.layout.queue.done + 1 < 2 ^ 64 }
-    requires place { is_candidate_kind step.kind ≡ true → (p : ℕ) × IsMarkOf scanner.now.text.chars reach p }
-    ensures { IfSome result (λ f. IsFollower scanner.now sparing step reach f.waits f.decider.kind
+    requires done { state.now.layout.queue.done + 1 < 2 ^ 64 }
+    requires place { is_candidate_kind step.kind ≡ true → (p : ℕ) × IsMarkOf text.now.chars reach p }
+    ensures { IfSome result (λ f. IsFollower (scanner_of text.now state.now) sparing step reach f.waits f.decider.kind
         (lexeme_of f.decider.lexeme)) }
 {
-    let waits = followed_by(scanner, sparing, step, reach)?;
-    let decider = decider_at(&scanner.text, reach, step.in_flow)?;
-    if may_follow(scanner, waits, decider.lexeme.reach) {
+    let waits = followed_by(state, sparing, step, reach)?;
+    let decider = decider_at(text, reach, step.in_flow)?;
+    if may_follow(state, waits, decider.lexeme.reach) {
         Some(follower_t { decider, waits })
     } else {
         None
@@ -149,33 +152,36 @@ fn drop_candidate(slots: &mut slots_t, kind: yaml_lexeme_kind_t, waits: bool)
 /// candidate, for which the second decides. If they wait, they are in flow, where no level ends and none begins.
 #[inline(always)]
 fn lay_both<const WAITS: bool>(
-    scanner: &mut scanner_t,
+    state: &mut state_t,
     step: step_t,
     at: yaml_mark_t,
     decider: &decider_t,
 ) -> (usize, block_t, bool)
     ghost before: { List Laid }
-    requires { (x : Lexeme) × ((x.reach ≡ at) × CanLayAll before scanner.old step x) × ((sparing : Bool)
-        × IsFollower scanner.old sparing step at WAITS decider.now.kind
+    requires { (text : Text) × (x : Lexeme) × ((x.reach ≡ at) × CanLayAll before (scanner_of text state.old) step x)
+        × ((sparing : Bool)
+        × IsFollower (scanner_of text state.old) sparing step at WAITS decider.now.kind
         (lexeme_of decider.now.lexeme)) }
-    ensures laid { (sparing : Bool) (d : TokenData) (b e : yaml_mark_t) (passed : Bool) (t z : code_token_t)
-        → CanLayAll before scanner.old step (read_to d b e at passed)
-        → IsFollower scanner.old sparing step at WAITS decider.now.kind
+    ensures laid { (text : Text) (sparing : Bool) (d : TokenData) (b e : yaml_mark_t) (passed : Bool)
+        (t z : code_token_t)
+        → CanLayAll before (scanner_of text state.old) step (read_to d b e at passed)
+        → IsFollower (scanner_of text state.old) sparing step at WAITS decider.now.kind
         (lexeme_of decider.now.lexeme) → IsTokenOf t d step.new.start e
         → IsTokenOf z (lexeme_of decider.now.lexeme).token_data at
         (lexeme_of decider.now.lexeme).end_mark
-        → LaysTwo (WAITS || sparing) before scanner.old scanner.new (groups_in scanner.new
+        → LaysTwo (WAITS || sparing) before (scanner_of text state.old) (scanner_of text state.new)
+        (groups_in (scanner_of text state.new)
         ++ group_with result.0 result.1 result.2 t ∷ (lone z ∷ [])) }
-    ensures queue { scanner.new.layout.queue ≡ scanner.old.layout.queue }
-    ensures awaited { WAITS ≡ false → scanner.new.slots.awaited ≡ 0 }
-    ensures few { result.0 ≤ length scanner.old.layout.levels.items }
+    ensures queue { state.new.layout.queue ≡ state.old.layout.queue }
+    ensures awaited { WAITS ≡ false → state.new.slots.awaited ≡ 0 }
+    ensures few { result.0 ≤ length state.old.layout.levels.items }
 {
     let kind = decider.kind;
     let key = is_key(step, WAITS, kind);
-    let (ends, opens) = lay_levels(&mut scanner.layout.levels, step, key, WAITS);
-    drop_candidate(&mut scanner.slots, kind, WAITS);
-    scanner.allowed = is_allowed_after(kind, step.in_flow, !key, false);
-    scanner.reach = decider.lexeme.reach;
+    let (ends, opens) = lay_levels(&mut state.layout.levels, step, key, WAITS);
+    drop_candidate(&mut state.slots, kind, WAITS);
+    state.allowed = is_allowed_after(kind, step.in_flow, !key, false);
+    state.reach = decider.lexeme.reach;
     (ends, opens, key)
 }
 
@@ -183,31 +189,34 @@ fn lay_both<const WAITS: bool>(
 /// the token of the lexeme, what it opens, and whether it is a key. What comes after it is a group alone.
 #[inline(always)]
 pub(crate) fn lay_followed(
-    scanner: &mut scanner_t,
+    state: &mut state_t,
     step: step_t,
     at: yaml_mark_t,
     follower: &follower_t,
 ) -> (usize, block_t, bool)
     ghost before: { List Laid }
-    requires { (x : Lexeme) × ((x.reach ≡ at) × CanLayAll before scanner.old step x) × ((sparing : Bool)
-        × IsFollower scanner.old sparing step at follower.now.waits follower.now.decider.kind
+    requires { (text : Text) × (x : Lexeme) × ((x.reach ≡ at) × CanLayAll before (scanner_of text state.old) step x)
+        × ((sparing : Bool)
+        × IsFollower (scanner_of text state.old) sparing step at follower.now.waits follower.now.decider.kind
         (lexeme_of follower.now.decider.lexeme)) }
-    ensures laid { (sparing : Bool) (d : TokenData) (b e : yaml_mark_t) (passed : Bool) (t z : code_token_t)
-        → CanLayAll before scanner.old step (read_to d b e at passed)
-        → IsFollower scanner.old sparing step at follower.now.waits follower.now.decider.kind
+    ensures laid { (text : Text) (sparing : Bool) (d : TokenData) (b e : yaml_mark_t) (passed : Bool)
+        (t z : code_token_t)
+        → CanLayAll before (scanner_of text state.old) step (read_to d b e at passed)
+        → IsFollower (scanner_of text state.old) sparing step at follower.now.waits follower.now.decider.kind
         (lexeme_of follower.now.decider.lexeme) → IsTokenOf t d step.new.start e
         → IsTokenOf z (lexeme_of follower.now.decider.lexeme).token_data at
         (lexeme_of follower.now.decider.lexeme).end_mark
-        → LaysTwo (follower.now.waits || sparing) before scanner.old scanner.new (groups_in scanner.new
+        → LaysTwo (follower.now.waits || sparing) before (scanner_of text state.old) (scanner_of text state.new)
+        (groups_in (scanner_of text state.new)
         ++ group_with result.0 result.1 result.2 t ∷ (lone z ∷ [])) }
-    ensures queue { scanner.new.layout.queue ≡ scanner.old.layout.queue }
-    ensures awaited { follower.now.waits ≡ false → scanner.new.slots.awaited ≡ 0 }
-    ensures few { result.0 ≤ length scanner.old.layout.levels.items }
+    ensures queue { state.new.layout.queue ≡ state.old.layout.queue }
+    ensures awaited { follower.now.waits ≡ false → state.new.slots.awaited ≡ 0 }
+    ensures few { result.0 ≤ length state.old.layout.levels.items }
 {
     // a copy for each, so that what differs is asked once
     if follower.waits {
-        lay_both::<true>(scanner, step, at, &follower.decider)
+        lay_both::<true>(state, step, at, &follower.decider)
     } else {
-        lay_both::<false>(scanner, step, at, &follower.decider)
+        lay_both::<false>(state, step, at, &follower.decider)
     }
 }

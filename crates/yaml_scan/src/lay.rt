@@ -6,9 +6,11 @@ ghost use Rattle.yaml_text.specs.declared.token.yaml_token_t.{yaml_token_t as co
 ghost use Rattle.yaml_text.specs.declared.types.yaml_mark_t.{yaml_mark_t};
 ghost use Rattle.yaml_text.specs.Token.{TokenData, data_of, token_of};
 ghost use Rattle.yaml_lexeme.specs.Lexeme.{Lexeme};
+ghost use Rattle.yaml_text.specs.Text.{Text};
 ghost use Rattle.yaml_scan.specs.Kind.{is_flow_start};
 ghost use Rattle.yaml_scan.specs.Laid.{Laid};
 ghost use Rattle.yaml_scan.specs.inside.Handed.{IsLaidAs, IsReadTo, IsTokenOf, group_with, read_to};
+ghost use Rattle.yaml_scan.specs.inside.Scanner.{scanner_of};
 ghost use Rattle.yaml_scan.specs.inside.Scanning.{CanPut, HasRoom, groups_in, met_in};
 ghost use Rattle.yaml_scan.specs.inside.Slots.{AreNested, empty_slots, lowest, nested_outer, nested_top, slot_after};
 ghost use Rattle.yaml_scan.specs.inside.Slots.{step_of, still_held};
@@ -18,8 +20,8 @@ use crate::groups::block_t;
 use crate::keys::{completed_by, move_slots, settle};
 use crate::levels::{close_levels, keep_early, put_key};
 use crate::met::step_t;
-use crate::scanner::scanner_t;
 use crate::slots::slots_t;
+use crate::state::state_t;
 use yaml_lexeme::yaml_lexeme_t;
 use yaml_text::{yaml_mark_t, yaml_token_t};
 
@@ -65,32 +67,34 @@ fn keep_candidates(slots: &mut slots_t, step: step_t, limit: u64, mark: yaml_mar
 /// handed out. There is room, and no candidate is lost.
 #[inline(always)]
 pub(crate) fn lay_lexeme(
-    scanner: &mut scanner_t,
+    state: &mut state_t,
     step: step_t,
     reach: yaml_mark_t,
     passed_break: bool,
 ) -> (usize, block_t)
     ghost before: { List Laid }
-    requires can { (x : Lexeme) × (IsReadTo x reach passed_break × CanPut before scanner.old (groups_in scanner.old)
-        (met_in scanner.old step) step.in_flow step.new x) }
-    requires room { HasRoom scanner.old step.in_flow step.kind }
-    ensures laid { (d : TokenData) (b e : yaml_mark_t) (t : code_token_t)
-        → CanPut before scanner.old (groups_in scanner.old) (met_in scanner.old step) step.in_flow step.new
+    requires can { (text : Text) × (x : Lexeme) × (IsReadTo x reach passed_break × CanPut before
+        (scanner_of text state.old) (groups_in (scanner_of text state.old))
+        (met_in (scanner_of text state.old) step) step.in_flow step.new x) }
+    requires room { (text : Text) × HasRoom (scanner_of text state.old) step.in_flow step.kind }
+    ensures laid { (text : Text) (d : TokenData) (b e : yaml_mark_t) (t : code_token_t)
+        → CanPut before (scanner_of text state.old) (groups_in (scanner_of text state.old))
+        (met_in (scanner_of text state.old) step) step.in_flow step.new
         (read_to d b e reach passed_break) → IsTokenOf t d step.new.start e
-        → IsLaidAs before scanner.old step.kind scanner.new
-        (groups_in scanner.new ++ group_with result.0 result.1 false t ∷ []) }
-    ensures reach { scanner.new.reach ≡ reach }
-    ensures room { length scanner.new.layout.queue.groups.items < deque_capacity scanner.new.layout.queue.groups }
+        → IsLaidAs before (scanner_of text state.old) step.kind (scanner_of text state.new)
+        (groups_in (scanner_of text state.new) ++ group_with result.0 result.1 false t ∷ []) }
+    ensures reach { state.new.reach ≡ reach }
+    ensures room { length state.new.layout.queue.groups.items < deque_capacity state.new.layout.queue.groups }
 {
     let kind = step.kind;
-    let front = scanner.front;
+    let front = state.front;
     let start = step.new.start;
-    let closed = close_levels(&mut scanner.layout.levels, step, front);
-    let completed = completed_by(kind, scanner.slots.top, scanner.limit, start);
-    keep_candidates(&mut scanner.slots, step, scanner.limit, reach);
-    let opens = put_key(&mut scanner.layout, step, completed);
-    keep_early(&mut scanner.layout.queue, closed, front);
-    scanner.allowed = is_allowed_after(kind, step.in_flow, completed.is_none(), passed_break);
-    scanner.reach = reach;
+    let closed = close_levels(&mut state.layout.levels, step, front);
+    let completed = completed_by(kind, state.slots.top, state.limit, start);
+    keep_candidates(&mut state.slots, step, state.limit, reach);
+    let opens = put_key(&mut state.layout, step, completed);
+    keep_early(&mut state.layout.queue, closed, front);
+    state.allowed = is_allowed_after(kind, step.in_flow, completed.is_none(), passed_break);
+    state.reach = reach;
     (closed.ends, opens)
 }

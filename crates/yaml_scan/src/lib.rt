@@ -22,8 +22,8 @@ mod look;
 mod met;
 mod near;
 mod parser;
+mod room;
 mod scanned;
-mod scanner;
 mod session;
 mod settled;
 mod sink;
@@ -31,6 +31,7 @@ mod sink;
 mod slot_tests;
 mod slots;
 mod source;
+mod state;
 mod step;
 mod stop;
 mod target;
@@ -39,7 +40,7 @@ mod waiting;
 pub use all::{yaml_scan_all, yaml_scan_all_limit};
 pub use batch::yaml_scan_next_to;
 pub use calls::{yaml_answer_t, yaml_call_t, yaml_run};
-pub use kept::yaml_kept_parser_t;
+pub use kept::{yaml_kept_parser_t, yaml_kept_peek, yaml_kept_scan_to};
 pub use parser::{
     yaml_parser_fault, yaml_parser_has_token, yaml_parser_mark, yaml_parser_peek,
     yaml_parser_queued, yaml_parser_scan, yaml_parser_skip, yaml_parser_t,
@@ -53,8 +54,9 @@ pub use yaml_lexeme::{
 pub use yaml_text::{
     AS_DIGIT, AS_HEX, IS_ALPHA, IS_ASCII, IS_BLANK, IS_BLANKZ, IS_BOM, IS_BREAK, IS_BREAKZ,
     IS_CRLF, IS_DIGIT, IS_HEX, IS_PRINTABLE, IS_SPACE, IS_TAB, IS_Z, WIDTH,
-    unnamed_yaml_token_t_data, yaml_break_t, yaml_decode, yaml_decode_front, yaml_encoding_t,
-    yaml_error_type_t, yaml_fault_t, yaml_index_from_end, yaml_is_place, yaml_mapping_style_t,
-    yaml_mark_at, yaml_mark_t, yaml_scalar_style_t, yaml_sequence_style_t, yaml_simple_key_t,
-    yaml_tag_directive_t, yaml_text_t, yaml_token_t, yaml_token_type_t, yaml_version_directive_t,
+    unnamed_yaml_token_t_data, yaml_break_t, yaml_decode, yaml_decode_front, yaml_encoding_of,
+    yaml_encoding_t, yaml_error_type_t, yaml_fault_t, yaml_index_from_end, yaml_is_place,
+    yaml_mapping_style_t, yaml_mark_at, yaml_mark_t, yaml_scalar_style_t, yaml_sequence_style_t,
+    yaml_simple_key_t, yaml_tag_directive_t, yaml_text_t, yaml_token_t, yaml_token_type_t,
+    yaml_version_directive_t,
 };

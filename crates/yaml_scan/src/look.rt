@@ -1,8 +1,10 @@
 //! What a step tests before and after it reads its lexeme.
 ghost use Rattle.std.specs.Prelude.{◌≡◌, ◌+◌, ◌<◌, ◌^◌, ◌&&◌, not, if◌then◌else◌, nat_lt, None, reverse, vec_len};
 ghost use Rattle.std.specs.Option.{is_some, option_copied};
+ghost use Rattle.yaml_text.specs.Text.{Text};
 ghost use Rattle.yaml_scan.specs.Falling.{IsFalling};
 ghost use Rattle.yaml_scan.specs.Step.{problem_of};
+ghost use Rattle.yaml_scan.specs.inside.Scanner.{scanner_of};
 ghost use Rattle.yaml_scan.specs.inside.Scanning.{IsNewHeld, cleared_in, met_in, refused_in};
 ghost use Rattle.yaml_scan.specs.inside.Slots.{is_level, root_of, slot_after};
 
@@ -10,8 +12,8 @@ use crate::keys::{completed_by, needed_at, root_at, settle};
 use crate::kind::{is_candidate, is_colon, start_after};
 use crate::levels::{is_level, level_at};
 use crate::met::step_t;
-use crate::scanner::scanner_t;
 use crate::slots::{candidate_t, slots_t};
+use crate::state::state_t;
 use yaml_lexeme::{yaml_context_t, yaml_lexeme_kind_t};
 use yaml_text::yaml_mark_t;
 
@@ -35,32 +37,32 @@ pub(crate) fn problem(kind: yaml_lexeme_kind_t, none: bool) -> Option<&'static s
 /// What is wrong with a kind after the gap, if it needs an allowed key and none is allowed.
 #[inline(always)]
 pub(crate) fn refused_by(
-    scanner: &scanner_t,
+    state: &state_t,
     in_flow: bool,
     kind: yaml_lexeme_kind_t,
     allowed: bool,
 ) -> Option<&'static str>
-    ensures { option_copied result ≡ refused_in scanner.now in_flow kind allowed }
+    ensures { (text : Text) → option_copied result ≡ refused_in (scanner_of text state.now) in_flow kind allowed }
 {
     if in_flow || allowed {
         return None;
     }
-    let completed = completed_by(kind, scanner.slots.top, scanner.limit, scanner.front);
+    let completed = completed_by(kind, state.slots.top, state.limit, state.front);
     problem(kind, completed.is_none())
 }
 
 /// The required candidate that a lexeme of a kind after the gap would clear or replace.
 #[inline(always)]
 pub(crate) fn cleared_by(
-    scanner: &scanner_t,
+    state: &state_t,
     in_flow: bool,
     kind: yaml_lexeme_kind_t,
     allowed: bool,
 ) -> Option<candidate_t>
-    ensures { result ≡ cleared_in scanner.now in_flow kind allowed }
+    ensures { (text : Text) → result ≡ cleared_in (scanner_of text state.now) in_flow kind allowed }
 {
     if !is_colon(kind) && (!is_candidate(kind) || allowed) && !in_flow {
-        needed_at(scanner.slots.top, scanner.limit, scanner.front)
+        needed_at(state.slots.top, state.limit, state.front)
     } else {
         None
     }
@@ -94,30 +96,31 @@ fn new_candidate(step: u64, start: yaml_mark_t, in_flow: bool, level: Option<u64
 /// What a lexeme of a kind after the gap is read and laid with.
 #[inline(always)]
 pub(crate) fn step_of(
-    scanner: &scanner_t,
+    state: &state_t,
     in_flow: bool,
     kind: yaml_lexeme_kind_t,
     allowed: bool,
 ) -> step_t
-    requires flow { in_flow ≡ nat_lt 0 (vec_len scanner.now.slots.outer) }
-    requires falls { IsFalling (reverse scanner.now.layout.levels.items) }
-    requires line { scanner.now.front.line + 1 < 2 ^ 64 }
-    requires made { scanner.now.made + 1 < 2 ^ 64 }
+    requires flow { in_flow ≡ nat_lt 0 (vec_len state.now.slots.outer) }
+    requires falls { IsFalling (reverse state.now.layout.levels.items) }
+    requires line { state.now.front.line + 1 < 2 ^ 64 }
+    requires made { state.now.made + 1 < 2 ^ 64 }
     ensures kind { result.kind ≡ kind }
     ensures flow { result.in_flow ≡ in_flow }
     ensures allowed { result.allowed ≡ allowed }
-    ensures new { IsNewHeld scanner.now (met_in scanner.now result) result.in_flow result.context.level result.new }
-    ensures depth { result.context.depth ≡ vec_len scanner.now.slots.outer }
+    ensures new { (text : Text) → IsNewHeld (scanner_of text state.now)
+        (met_in (scanner_of text state.now) result) result.in_flow result.context.level result.new }
+    ensures depth { result.context.depth ≡ vec_len state.now.slots.outer }
 {
-    let start = start_after(kind, scanner.front);
-    let level = level_at(&scanner.layout.levels, in_flow, kind, start);
+    let start = start_after(kind, state.front);
+    let level = level_at(&state.layout.levels, in_flow, kind, start);
     step_t {
         kind,
         in_flow,
         allowed,
-        new: new_candidate(scanner.made + 1, start, in_flow, level),
+        new: new_candidate(state.made + 1, start, in_flow, level),
         context: yaml_context_t {
-            depth: depth_at(&scanner.slots, in_flow),
+            depth: depth_at(&state.slots, in_flow),
             level,
         },
     }
@@ -125,12 +128,12 @@ pub(crate) fn step_of(
 
 /// The candidate of depth 0 after the lexeme of a step.
 #[inline(always)]
-pub(crate) fn root_after(scanner: &scanner_t, step: step_t) -> Option<candidate_t>
-    requires { step.in_flow ≡ nat_lt 0 (vec_len scanner.now.slots.outer) }
-    ensures { result ≡ root_of scanner.now.slots.outer.items
-        (slot_after step.kind step.allowed step.new scanner.now.slots.top) }
+pub(crate) fn root_after(state: &state_t, step: step_t) -> Option<candidate_t>
+    requires { step.in_flow ≡ nat_lt 0 (vec_len state.now.slots.outer) }
+    ensures { result ≡ root_of state.now.slots.outer.items
+        (slot_after step.kind step.allowed step.new state.now.slots.top) }
 {
-    let mut top = scanner.slots.top;
+    let mut top = state.slots.top;
     settle(&mut top, step.kind, step.allowed, step.new);
-    root_at(&scanner.slots.outer, top, step.in_flow)
+    root_at(&state.slots.outer, top, step.in_flow)
 }

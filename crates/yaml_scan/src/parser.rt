@@ -4,10 +4,12 @@ ghost use Rattle.std.specs.Borrow.{sem};
 ghost use Rattle.yaml_text.specs.Fault.{Fault, fault_of};
 ghost use Rattle.yaml_text.specs.Token.{token_of};
 ghost use Rattle.yaml_text.specs.declared.types.yaml_encoding_t.TheVariants.{YAML_UTF8_ENCODING};
+ghost use Rattle.yaml_text.specs.Text.{Text};
 ghost use Rattle.yaml_scan.specs.Decoded.{decoded_input};
 ghost use Rattle.yaml_scan.specs.KeyLimits.{key_limit, most_key_limit};
 ghost use Rattle.yaml_scan.specs.Settled.{before};
 ghost use Rattle.yaml_scan.specs.Sessions.{new_session, session_queued, session_reach};
+ghost use Rattle.yaml_scan.specs.inside.Scanner.{scanner_of};
 ghost use Rattle.yaml_scan.specs.inside.Scanning.{IsRunning, history};
 ghost use Rattle.yaml_scan.specs.inside.Ready.{IsNew, IsReady, IsSettled, IsStopped, IsShort, IsEnded, Pops, Begins};
 ghost use Rattle.yaml_scan.specs.inside.Ready.{IsStarted, IsShown};
@@ -23,15 +25,15 @@ ghost use Rattle.yaml_scan.specs.Peek.{OnceLetGo};
 ghost use Rattle.yaml_scan.specs.Puts.{HasNext, IsAnsweredAlike};
 ghost use Rattle.yaml_scan.specs.inside.Stop.{fault_at};
 
-use crate::fault::{fault_at, make_memory_fault, stop_t};
+use crate::fault::{fault_at, stop_t};
 use crate::groups::{has_lead, put_stream_start, queue_t, show_lead, take_next};
 use crate::keys::KEY_LIMIT;
 use crate::levels::layout_t;
 use crate::near::{near_of, near_start};
-use crate::scanner::scanner_t;
 use crate::session::{end, pass, session_t};
 use crate::settled::settle_head;
 use crate::slots::slots_t;
+use crate::state::state_t;
 use std::alloc::Global;
 use std::collections::VecDeque;
 use std::marker::Model;
@@ -44,7 +46,8 @@ use yaml_text::{
 pub struct yaml_parser_t<'a> {
     pub(crate) input: &'a [u8],
     pub(crate) setting: yaml_encoding_t,
-    pub(crate) scanner: scanner_t<'a>,
+    pub(crate) text: yaml_text_t<'a>,
+    pub(crate) state: state_t,
     pub(crate) session: session_t,
     pub(crate) empty: yaml_token_t,
     /// The token that is shown if the head of the queue hands out one before its own.
@@ -70,8 +73,9 @@ pub(crate) fn empty_text<'a>(alloc: Global) -> yaml_text_t<'a> {
     }
 }
 
-pub(crate) fn new_scanner<'a>(alloc: Global, limit: u64) -> scanner_t<'a>
-    ensures new { IsNew result }
+/// The state of a scanner that has read nothing.
+pub(crate) fn new_state(alloc: Global, limit: u64) -> state_t
+    ensures new { (text : Text) → IsNew (scanner_of text result) }
     ensures limit { result.limit ≡ limit }
 {
     let zero = yaml_mark_t {
@@ -79,10 +83,9 @@ pub(crate) fn new_scanner<'a>(alloc: Global, limit: u64) -> scanner_t<'a>
         line: 0,
         column: 0,
     };
-    scanner_t {
+    state_t {
         alloc,
-        text: empty_text(alloc),
-        refusal: None,
+        fault: None,
         near: 0,
         limit,
         slots: slots_t {
@@ -104,96 +107,123 @@ pub(crate) fn new_scanner<'a>(alloc: Global, limit: u64) -> scanner_t<'a>
         reach: zero,
         front: zero,
         there: zero,
-        kept: make_memory_fault(),
         taken: 0,
         made: 0,
     }
 }
 
-/// Decodes the input, and makes the first step.
+/// Decodes the input, and makes the first step. Returns the text.
 #[inline(never)]
 pub(crate) fn begin<'a>(
-    scanner: &mut scanner_t<'a>,
+    state: &mut state_t,
     input: &'a [u8],
     setting: yaml_encoding_t,
-) -> Result<(), stop_t>
-    requires { IsNew scanner.old }
-    ensures { MatchResult result (λ _. Begins setting input.now scanner.old scanner.new) (λ s.
-        (IsShort setting input.now scanner.old (fault_at s scanner.new.kept)
-        ⊎ IsEnded setting input.now scanner.old scanner.new (fault_at s scanner.new.kept))
-        × IsStopped setting input.now scanner.old scanner.new) }
+) -> Result<yaml_text_t<'a>, stop_t>
+    requires { (text : Text) → IsNew (scanner_of text state.old) }
+    ensures { (text : Text) → MatchResult result
+        (λ front. Begins setting input.now (scanner_of text state.old) (scanner_of front state.new)) (λ s.
+        (IsShort setting input.now (scanner_of text state.old) (fault_at s state.new.fault)
+        ⊎ IsEnded setting input.now (scanner_of text state.old) (scanner_of text state.new)
+        (fault_at s state.new.fault))
+        × IsStopped setting input.now (scanner_of text state.old) (scanner_of text state.new)) }
 {
-    let (text, refusal) = match yaml_decode_front(scanner.alloc, input, setting) {
+    let (text, refusal) = match yaml_decode_front(state.alloc, input, setting) {
         Ok(front) => front,
         Err(fault) => {
-            scanner.kept = fault;
+            state.fault = Some(fault);
             return Err(stop_t::FAULT);
         }
     };
     let encoding = text.encoding();
     let near = near_of(&text, refusal);
     if let Some(fault) = near_start(refusal, near) {
-        scanner.kept = fault;
+        state.fault = Some(fault);
         return Err(stop_t::FAULT);
     }
-    put_stream_start(&mut scanner.layout.queue, encoding, text.bytes().len())?;
-    scanner.text = text;
-    scanner.refusal = refusal;
-    scanner.near = near;
-    scanner.made = 1;
+    put_stream_start(&mut state.layout.queue, encoding, text.bytes().len())?;
+    state.fault = refusal;
+    state.near = near;
+    state.made = 1;
+    Ok(text)
+}
+
+/// Decodes the input in the place of a text, and makes the first step. It is not inlined, since it is called once.
+#[inline(never)]
+fn begin_text<'a>(
+    text: &mut yaml_text_t<'a>,
+    state: &mut state_t,
+    input: &'a [u8],
+    setting: yaml_encoding_t,
+) -> Result<(), stop_t>
+    requires { IsNew (scanner_of text.old state.old) }
+    ensures { MatchResult result
+        (λ _. Begins setting input.now (scanner_of text.old state.old) (scanner_of text.new state.new)) (λ s.
+        (IsShort setting input.now (scanner_of text.old state.old) (fault_at s state.new.fault)
+        ⊎ IsEnded setting input.now (scanner_of text.old state.old) (scanner_of text.new state.new)
+        (fault_at s state.new.fault))
+        × IsStopped setting input.now (scanner_of text.old state.old) (scanner_of text.new state.new)) }
+{
+    *text = begin(state, input, setting)?;
     Ok(())
 }
 
 /// Makes the first step, if it was not made.
 #[inline(always)]
 pub(crate) fn start<'a>(
-    scanner: &mut scanner_t<'a>,
+    text: &mut yaml_text_t<'a>,
+    state: &mut state_t,
     input: &'a [u8],
     setting: yaml_encoding_t,
 ) -> Result<(), stop_t>
-    requires { IsReady setting input.now scanner.old }
-    ensures { MatchResult result (λ _. IsStarted setting input.now scanner.old scanner.new) (λ s.
-        (IsShort setting input.now scanner.old (fault_at s scanner.new.kept)
-        ⊎ IsEnded setting input.now scanner.old scanner.new (fault_at s scanner.new.kept))
-        × IsStopped setting input.now scanner.old scanner.new) }
+    requires { IsReady setting input.now (scanner_of text.old state.old) }
+    ensures { MatchResult result (λ _. IsStarted setting input.now (scanner_of text.old state.old)
+        (scanner_of text.new state.new)) (λ s.
+        (IsShort setting input.now (scanner_of text.old state.old) (fault_at s state.new.fault)
+        ⊎ IsEnded setting input.now (scanner_of text.old state.old) (scanner_of text.new state.new)
+        (fault_at s state.new.fault))
+        × IsStopped setting input.now (scanner_of text.old state.old) (scanner_of text.new state.new)) }
 {
-    if scanner.made > 0 {
+    if state.made > 0 {
         return Ok(());
     }
-    begin(scanner, input, setting)
+    begin_text(text, state, input, setting)
 }
 
 /// Makes the steps that the next token needs: none if it was peeked.
 #[inline(always)]
 fn settle<'a>(
-    scanner: &mut scanner_t<'a>,
+    text: &mut yaml_text_t<'a>,
+    state: &mut state_t,
     input: &'a [u8],
     setting: yaml_encoding_t,
     peeked: bool,
 ) -> Result<(), stop_t>
-    requires ready { IsReady setting input.now scanner.old }
-    requires shown { peeked ≡ true → IsShown setting input.now scanner.old }
-    ensures { MatchResult result (λ _. IsSettled setting input.now scanner.old scanner.new)
-        (λ s. (IsShort setting input.now scanner.old (fault_at s scanner.new.kept)
-        ⊎ IsEnded setting input.now scanner.old scanner.new (fault_at s scanner.new.kept))
-        × IsStopped setting input.now scanner.old scanner.new × (peeked ≡ false)) }
+    requires ready { IsReady setting input.now (scanner_of text.old state.old) }
+    requires shown { peeked ≡ true → IsShown setting input.now (scanner_of text.old state.old) }
+    ensures { MatchResult result (λ _. IsSettled setting input.now (scanner_of text.old state.old)
+        (scanner_of text.new state.new))
+        (λ s. (IsShort setting input.now (scanner_of text.old state.old) (fault_at s state.new.fault)
+        ⊎ IsEnded setting input.now (scanner_of text.old state.old) (scanner_of text.new state.new)
+        (fault_at s state.new.fault))
+        × IsStopped setting input.now (scanner_of text.old state.old) (scanner_of text.new state.new)
+        × (peeked ≡ false)) }
 {
     if peeked {
         return Ok(());
     }
-    start(scanner, input, setting)?;
-    settle_head(scanner)
+    start(text, state, input, setting)?;
+    settle_head(text, state)
 }
 
 /// Takes the head of the queue.
 #[inline(always)]
-pub(crate) fn take_head(scanner: &mut scanner_t) -> yaml_token_t
-    requires runs { IsRunning scanner.old }
-    requires settled { scanner.old.taken < length (before scanner.old.limit (history scanner.old)) }
-    ensures { Pops scanner.old scanner.new (token_of result) }
+pub(crate) fn take_head(_text: &yaml_text_t, state: &mut state_t) -> yaml_token_t
+    requires runs { IsRunning (scanner_of _text.now state.old) }
+    requires settled { state.old.taken < length (before state.old.limit (history (scanner_of _text.now state.old))) }
+    ensures { Pops (scanner_of _text.now state.old) (scanner_of _text.now state.new) (token_of result) }
 {
-    scanner.taken += 1;
-    take_next(&mut scanner.layout.queue)
+    state.taken += 1;
+    take_next(&mut state.layout.queue)
 }
 
 impl<'a> yaml_parser_t<'a> {
@@ -218,11 +248,12 @@ impl<'a> yaml_parser_t<'a> {
         yaml_parser_t {
             input,
             setting,
-            scanner: new_scanner(alloc, limit as u64),
+            text: empty_text(alloc),
+            state: new_state(alloc, limit as u64),
             session: session_t {
                 peeked: false,
                 over: false,
-                fault: None,
+                failed: false,
             },
             empty: yaml_token_t::empty(),
             lead: yaml_token_t::empty(),
@@ -236,10 +267,10 @@ fn shown<'s>(parser: &'s yaml_parser_t<'_>) -> &'s yaml_token_t
 {
     if !parser.session.peeked {
         &parser.empty
-    } else if has_lead(&parser.scanner.layout.queue) {
+    } else if has_lead(&parser.state.layout.queue) {
         &parser.lead
     } else {
-        &parser.scanner.layout.queue.groups.front().unwrap().token
+        &parser.state.layout.queue.groups.front().unwrap().token
     }
 }
 
@@ -251,18 +282,20 @@ pub(crate) fn show(parser: &mut yaml_parser_t) -> bool
         return true;
     }
     match settle(
-        &mut parser.scanner,
+        &mut parser.text,
+        &mut parser.state,
         parser.input,
         parser.setting,
         parser.session.peeked,
     ) {
         Ok(_) => {
-            show_lead(&parser.scanner.layout.queue, &mut parser.lead);
+            show_lead(&parser.state.layout.queue, &mut parser.lead);
             parser.session.peeked = true;
             true
         }
         Err(stop) => {
-            end(&mut parser.session, fault_at(stop, &parser.scanner.kept));
+            let fault = fault_at(stop, &parser.state.fault);
+            end(&mut parser.session, &mut parser.state.fault, fault);
             false
         }
     }
@@ -273,7 +306,10 @@ fn last_fault(parser: &yaml_parser_t) -> yaml_fault_t
     requires { (f : Fault) × (parser.now.session.fault ≡ Some f) }
     ensures { parser.now.session.fault ≡ Some (fault_of result) }
 {
-    match parser.session.fault {
+    if !parser.session.failed {
+        unreachable!();
+    }
+    match parser.state.fault {
         Some(fault) => fault,
         None => unreachable!(),
     }
@@ -285,7 +321,7 @@ fn take_shown(parser: &mut yaml_parser_t) -> yaml_token_t
     ensures token { token_of result ≡ token_shown parser.old }
     ensures left { parser.new ≡ after_call parser.old SKIP }
 {
-    let token = take_head(&mut parser.scanner);
+    let token = take_head(&parser.text, &mut parser.state);
     pass(&mut parser.session, &token);
     token
 }
@@ -311,19 +347,20 @@ pub fn yaml_parser_scan(parser: &mut yaml_parser_t) -> Result<yaml_token_t, yaml
         return Ok(yaml_token_t::empty());
     }
     match settle(
-        &mut parser.scanner,
+        &mut parser.text,
+        &mut parser.state,
         parser.input,
         parser.setting,
         parser.session.peeked,
     ) {
         Ok(_) => {
-            let token = take_head(&mut parser.scanner);
+            let token = take_head(&parser.text, &mut parser.state);
             pass(&mut parser.session, &token);
             Ok(token)
         }
         Err(stop) => {
-            let fault = fault_at(stop, &parser.scanner.kept);
-            end(&mut parser.session, fault);
+            let fault = fault_at(stop, &parser.state.fault);
+            end(&mut parser.session, &mut parser.state.fault, fault);
             Err(fault)
         }
     }
@@ -373,7 +410,11 @@ pub fn yaml_parser_has_token(parser: &yaml_parser_t) -> bool
 pub fn yaml_parser_fault<'s>(parser: &'s yaml_parser_t<'_>) -> Option<&'s yaml_fault_t>
     ensures { option_map (λ f. fault_of f.now) result ≡ parser.now.session.fault }
 {
-    parser.session.fault.as_ref()
+    if parser.session.failed {
+        parser.state.fault.as_ref()
+    } else {
+        None
+    }
 }
 
 /// How many steps have a token that was made and not taken: at most one more than the key limit. STREAM-START is a
@@ -382,7 +423,7 @@ pub fn yaml_parser_queued(parser: &yaml_parser_t) -> u64
     ensures steps { result ≡ session_queued (course_read parser.now) parser.now.session }
     ensures few { result ≤ parser.now.limit + 1 }
 {
-    parser.scanner.made - parser.scanner.layout.queue.done
+    parser.state.made - parser.state.layout.queue.done
 }
 
 /// How far the last step without a fault was read: bytes of the text in UTF-8, lines and characters, all from 0. It is
@@ -391,5 +432,5 @@ pub fn yaml_parser_mark(parser: &yaml_parser_t) -> yaml_mark_t
     ensures reach { result ≡ session_reach (course_read parser.now) parser.now.session }
     ensures marks { ReachesTo parser.now result }
 {
-    parser.scanner.reach
+    parser.state.reach
 }

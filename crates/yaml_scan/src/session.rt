@@ -12,8 +12,8 @@ pub(crate) struct session_t {
     /// Whether the next token was peeked.
     pub peeked: bool,
     pub over: bool,
-    /// The fault that ended it.
-    pub fault: Option<yaml_fault_t>,
+    /// Whether a fault ended it, which the state keeps.
+    pub failed: bool,
 }
 
 /// Whether a token is the stream end.
@@ -28,18 +28,20 @@ pub(crate) fn pass(session: &mut session_t, token: &yaml_token_t)
     ensures { session.new ≡ record {
       peeked = false;
       over = is_last_type (type_of (data_of token.now.token_data));
-      fault = session.old.fault;
+      failed = session.old.failed;
     } }
 {
     session.peeked = false;
     session.over = is_stream_end(token);
 }
 
-/// Ends the session with a fault.
-pub(crate) fn end(session: &mut session_t, fault: yaml_fault_t)
-    ensures { session.new ≡ record { peeked = false; over = true; fault = Some fault } }
+/// Ends the session with a fault, and keeps that.
+pub(crate) fn end(session: &mut session_t, kept: &mut Option<yaml_fault_t>, fault: yaml_fault_t)
+    ensures session { session.new ≡ record { peeked = false; over = true; failed = true } }
+    ensures kept { kept.new ≡ Some fault }
 {
     session.peeked = false;
     session.over = true;
-    session.fault = Some(fault);
+    session.failed = true;
+    *kept = Some(fault);
 }

@@ -6,48 +6,52 @@ ghost use Rattle.yaml_scan.specs.Course.{ended};
 ghost use Rattle.yaml_scan.specs.inside.Queue.{begins_with_end, pending};
 ghost use Rattle.yaml_scan.specs.Settled.{before};
 ghost use Rattle.yaml_scan.specs.inside.Stop.{fault_at};
-ghost use Rattle.yaml_scan.specs.inside.Scanning.{IsRunning, StepsOn, IsLast, Stays, IsOpen};
+ghost use Rattle.yaml_scan.specs.inside.Scanner.{scanner_of};
+ghost use Rattle.yaml_scan.specs.inside.Scanning.{IsRunning, StepsOn, IsLast, Halts, IsOpen};
 ghost use Rattle.yaml_scan.specs.inside.Scanning.{Fails, Settles};
 ghost use Rattle.yaml_scan.specs.inside.Scanning.{Stops, history};
 
 use crate::fault::stop_t;
-use crate::scanner::scanner_t;
+use crate::state::state_t;
 use crate::step::step;
 use crate::waiting::is_awaited;
+use yaml_text::yaml_text_t;
 
 /// Whether the head of the queue is the next token.
 #[inline(always)]
-pub(crate) fn is_settled(scanner: &scanner_t) -> bool
-    requires { IsRunning scanner.now }
-    ensures { result ≡ nat_lt scanner.now.taken (length (before scanner.now.limit (history scanner.now))) }
+pub(crate) fn is_settled(_text: &yaml_text_t, state: &state_t) -> bool
+    requires { IsRunning (scanner_of _text.now state.now) }
+    ensures { result ≡ nat_lt state.now.taken (length (before state.now.limit
+        (history (scanner_of _text.now state.now)))) }
 {
-    !scanner.layout.queue.groups.is_empty() && !is_awaited(scanner)
+    !state.layout.queue.groups.is_empty() && !is_awaited(state)
 }
 
 /// Makes a step, or two if the next token needs both, unless the scanner has to stop there.
 #[inline(always)]
-fn advance(scanner: &mut scanner_t) -> Result<(), stop_t>
-    requires runs { IsRunning scanner.old }
-    requires running { ended (history scanner.old) ≡ false }
-    ensures { MatchResult result (λ _. StepsOn scanner.old scanner.new) (λ s.
-        ((fault_at s scanner.new.kept ≡ memory_fault) ⊎ IsLast scanner.old (fault_at s scanner.new.kept))
-        × Stays scanner.old scanner.new) }
+fn advance(text: &yaml_text_t, state: &mut state_t) -> Result<(), stop_t>
+    requires runs { IsRunning (scanner_of text.now state.old) }
+    requires running { ended (history (scanner_of text.now state.old)) ≡ false }
+    ensures { MatchResult result (λ _. StepsOn (scanner_of text.now state.old) (scanner_of text.now state.new)) (λ s.
+        ((fault_at s state.new.fault ≡ memory_fault) ⊎ IsLast (scanner_of text.now state.old)
+        (fault_at s state.new.fault))
+        × Halts (scanner_of text.now state.old) (scanner_of text.now state.new)) }
 {
-    step(scanner)
+    step(text, state)
 }
 
 /// Makes steps until the head of the queue is the next token.
 #[inline(always)]
-pub(crate) fn settle_head(scanner: &mut scanner_t) -> Result<(), stop_t>
-    requires runs { IsRunning scanner.old }
-    requires not_ended { IsOpen scanner.old }
-    ensures { MatchResult result (λ _. Settles scanner.old scanner.new) (λ s.
-        ((fault_at s scanner.new.kept ≡ memory_fault)
-        ⊎ Fails scanner.old scanner.new (fault_at s scanner.new.kept))
-        × Stops scanner.old scanner.new) }
+pub(crate) fn settle_head(text: &yaml_text_t, state: &mut state_t) -> Result<(), stop_t>
+    requires runs { IsRunning (scanner_of text.now state.old) }
+    requires not_ended { IsOpen (scanner_of text.now state.old) }
+    ensures { MatchResult result (λ _. Settles (scanner_of text.now state.old) (scanner_of text.now state.new)) (λ s.
+        ((fault_at s state.new.fault ≡ memory_fault)
+        ⊎ Fails (scanner_of text.now state.old) (scanner_of text.now state.new) (fault_at s state.new.fault))
+        × Stops (scanner_of text.now state.old) (scanner_of text.now state.new)) }
 {
-    'steps: while !is_settled(scanner) {
-        advance(scanner)?;
+    'steps: while !is_settled(text, state) {
+        advance(text, state)?;
     }
     Ok(())
 }

@@ -1,6 +1,7 @@
 //! Scanning to a sink, which takes the tokens of an input, one after the other.
 ghost use Rattle.std.specs.Prelude.{◌≡◌, ◌≤◌, ◌<◌, length, IfOk, MatchResult, OnErr, option_map};
 ghost use Rattle.yaml_text.specs.Fault.{fault_of};
+ghost use Rattle.yaml_text.specs.Text.{Text};
 ghost use Rattle.yaml_scan.specs.KeyLimits.{most_key_limit};
 ghost use Rattle.yaml_scan.specs.Sink.{IsGivenAll, IsGivenFront};
 ghost use Rattle.yaml_text.specs.Token.{Token, token_of};
@@ -9,31 +10,37 @@ ghost use Rattle.yaml_scan.specs.Words.{HasWords, HaveWords};
 ghost use Rattle.yaml_scan.specs.inside.Given.{GaveRest, GivesAll, IsSettledTo, StopsGiving, told_all};
 ghost use Rattle.yaml_scan.specs.inside.Handed.{GivesNext};
 ghost use Rattle.yaml_scan.specs.inside.Ready.{IsNew, Pops};
-ghost use Rattle.yaml_scan.specs.declared.scanner.scanner_t.{scanner_t};
+ghost use Rattle.yaml_scan.specs.inside.Scanner.{Scanner, scanner_of};
 ghost use Rattle.yaml_scan.specs.inside.Scanning.{IsOpen, IsRunning, history};
 
 use crate::fault::{fault_at, stop_t, stopped};
 use crate::groups::{is_early, lead_t, lead_token, take_bare, take_early, take_lead};
-use crate::parser::{begin, new_scanner};
-use crate::scanner::scanner_t;
+use crate::parser::{begin, new_state};
 use crate::session::is_stream_end;
 use crate::settled::is_settled;
+use crate::state::state_t;
 use crate::step::step_to;
 use crate::target::{give, yaml_token_sink_t};
 use std::alloc::{AllocError, Global};
-use yaml_text::{yaml_encoding_t, yaml_fault_t, yaml_token_t};
+use yaml_text::{yaml_encoding_t, yaml_fault_t, yaml_text_t, yaml_token_t};
 
 /// Makes steps until the head of the queue is the next token. The groups of steps that need not wait go to the sink.
-fn settle_to<S: yaml_token_sink_t>(scanner: &mut scanner_t, sink: &mut S) -> Result<(), stop_t>
-    requires runs { IsRunning scanner.old }
-    requires still_open { IsOpen scanner.old }
+fn settle_to<S: yaml_token_sink_t>(
+    text: &yaml_text_t,
+    state: &mut state_t,
+    sink: &mut S,
+) -> Result<(), stop_t>
+    requires runs { IsRunning (scanner_of text.now state.old) }
+    requires still_open { IsOpen (scanner_of text.now state.old) }
     ensures { MatchResult result
-        (λ _. IsSettledTo scanner.old scanner.new (λ tokens. S.took sink.old tokens sink.new))
-        (λ stop. StopsGiving scanner.old scanner.new.kept stop (λ tokens. S.took sink.old tokens sink.new)
+        (λ _. IsSettledTo (scanner_of text.now state.old) (scanner_of text.now state.new)
+        (λ tokens. S.took sink.old tokens sink.new))
+        (λ stop. StopsGiving (scanner_of text.now state.old) state.new.fault stop
+        (λ tokens. S.took sink.old tokens sink.new)
         S.may_refuse) }
 {
-    'steps: while !is_settled(scanner) {
-        step_to::<true, S>(scanner, sink)?;
+    'steps: while !is_settled(text, state) {
+        step_to::<true, S>(text, state, sink)?;
     }
     Ok(())
 }
@@ -52,15 +59,19 @@ fn give_taken<S: yaml_token_sink_t>(sink: &mut S, token: yaml_token_t) -> Result
 /// Takes the head of the queue, and gives it to a sink. Returns whether it is the stream end. Each way in which a token
 /// is taken gives it by itself, so that the compiler moves it once.
 #[inline(always)]
-fn give_next<S: yaml_token_sink_t>(scanner: &mut scanner_t, sink: &mut S) -> Result<bool, stop_t>
-    requires runs { IsRunning scanner.old }
-    requires settled { scanner.old.taken < length (before scanner.old.limit (history scanner.old)) }
-    requires words { (t : scanner_t) (x : Token) → Pops scanner.old t x → HasWords x.token_data }
-    ensures { (x : Token) × Pops scanner.old scanner.new x
+pub(crate) fn give_next<S: yaml_token_sink_t>(
+    _text: &yaml_text_t,
+    state: &mut state_t,
+    sink: &mut S,
+) -> Result<bool, stop_t>
+    requires runs { IsRunning (scanner_of _text.now state.old) }
+    requires settled { state.old.taken < length (before state.old.limit (history (scanner_of _text.now state.old))) }
+    requires words { (t : Scanner) (x : Token) → Pops (scanner_of _text.now state.old) t x → HasWords x.token_data }
+    ensures { (x : Token) × Pops (scanner_of _text.now state.old) (scanner_of _text.now state.new) x
         × GivesNext (λ tokens. S.took sink.old tokens sink.new) S.may_refuse x result }
 {
-    scanner.taken += 1;
-    let queue = &mut scanner.layout.queue;
+    state.taken += 1;
+    let queue = &mut state.layout.queue;
     if is_early(queue) {
         return give_taken(sink, take_early(queue));
     }
@@ -72,18 +83,24 @@ fn give_next<S: yaml_token_sink_t>(scanner: &mut scanner_t, sink: &mut S) -> Res
 }
 
 /// Gives the tokens of a scanner that has made the first step to a sink, up to the stream end.
-fn give_rest<S: yaml_token_sink_t>(scanner: &mut scanner_t, sink: &mut S) -> Result<(), stop_t>
-    requires runs { IsRunning scanner.old }
-    requires still_open { IsOpen scanner.old }
-    requires words { HaveWords (told_all scanner.old) }
-    ensures { MatchResult result (λ _. GaveRest scanner.old (λ tokens. S.took sink.old tokens sink.new))
-        (λ stop. StopsGiving scanner.old scanner.new.kept stop (λ tokens. S.took sink.old tokens sink.new)
+fn give_rest<S: yaml_token_sink_t>(
+    text: &yaml_text_t,
+    state: &mut state_t,
+    sink: &mut S,
+) -> Result<(), stop_t>
+    requires runs { IsRunning (scanner_of text.now state.old) }
+    requires still_open { IsOpen (scanner_of text.now state.old) }
+    requires words { HaveWords (told_all (scanner_of text.now state.old)) }
+    ensures { MatchResult result (λ _. GaveRest (scanner_of text.now state.old)
+        (λ tokens. S.took sink.old tokens sink.new))
+        (λ stop. StopsGiving (scanner_of text.now state.old) state.new.fault stop
+        (λ tokens. S.took sink.old tokens sink.new)
         S.may_refuse) }
 {
     let mut last = false;
     'tokens: while !last {
-        settle_to(scanner, sink)?;
-        last = match give_next(scanner, sink) {
+        settle_to(text, state, sink)?;
+        last = match give_next(text, state, sink) {
             Ok(last) => last,
             Err(stop) => return Err(stopped(stop)),
         };
@@ -92,18 +109,18 @@ fn give_rest<S: yaml_token_sink_t>(scanner: &mut scanner_t, sink: &mut S) -> Res
 }
 
 /// Gives the tokens of a new scanner to a sink, up to the stream end.
-fn give_all<'a, S: yaml_token_sink_t>(
-    scanner: &mut scanner_t<'a>,
-    input: &'a [u8],
+fn give_all<S: yaml_token_sink_t>(
+    state: &mut state_t,
+    input: &[u8],
     setting: yaml_encoding_t,
     sink: &mut S,
 ) -> Result<(), stop_t>
-    requires { IsNew scanner.old }
-    ensures { GivesAll (λ tokens. S.took sink.old tokens sink.new) S.may_refuse scanner.old.limit setting input.now
-        scanner.new.kept result }
+    requires { (text : Text) → IsNew (scanner_of text state.old) }
+    ensures { GivesAll (λ tokens. S.took sink.old tokens sink.new) S.may_refuse state.old.limit setting input.now
+        state.new.fault result }
 {
-    begin(scanner, input, setting)?;
-    give_rest(scanner, sink)
+    let text = begin(state, input, setting)?;
+    give_rest(&text, state, sink)
 }
 
 /// Gives all tokens of an input to a sink, in order: to STREAM-END, or those before its fault, and returns the fault.
@@ -129,12 +146,12 @@ pub fn yaml_scan_to<S: yaml_token_sink_t>(
         IsGivenFront (λ tokens. S.took sink.old tokens sink.new) limit setting input.now) }
     ensures refused { OnErr result S.may_refuse }
 {
-    let mut scanner = new_scanner(alloc, limit as u64);
-    match give_all(&mut scanner, input, setting, sink) {
+    let mut state = new_state(alloc, limit as u64);
+    match give_all(&mut state, input, setting, sink) {
         Ok(_) => Ok(None),
         Err(stop) => match stop {
             stop_t::SINK => Err(AllocError),
-            _ => Ok(Some(fault_at(stop, &scanner.kept))),
+            _ => Ok(Some(fault_at(stop, &state.fault))),
         },
     }
 }

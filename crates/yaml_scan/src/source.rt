@@ -4,16 +4,17 @@ ghost use Rattle.yaml_lexeme.specs.KindSets.{block_kind, is_character, name_kind
 ghost use Rattle.yaml_lexeme.specs.LexemeOf.{lexeme_of};
 ghost use Rattle.yaml_lexeme.specs.Counted.{IsMarkOf};
 ghost use Rattle.yaml_lexeme.specs.Decider.{one_on};
-ghost use Rattle.yaml_lexeme.specs.declared.kind.yaml_lexeme_kind_t.TheVariants.{PLAIN, TAG};
+ghost use Rattle.yaml_lexeme.specs.declared.kind.yaml_lexeme_kind_t.TheVariants.{PLAIN, STREAM_END, TAG};
 ghost use Rattle.yaml_scan.specs.SourceOf.{source_of};
+ghost use Rattle.yaml_scan.specs.inside.Scanner.{scanner_of};
 ghost use Rattle.yaml_scan.specs.inside.Scanning.{HasRead};
 ghost use Rattle.yaml_scan.specs.inside.TextReads.{IsDecider, IsRead};
 
-use crate::scanner::scanner_t;
+use crate::state::state_t;
 use yaml_lexeme::{
     yaml_context_t, yaml_decider_at, yaml_gap, yaml_lexeme_kind, yaml_lexeme_kind_t, yaml_lexeme_t,
     yaml_read_block, yaml_read_character, yaml_read_lexeme, yaml_read_name, yaml_read_plain,
-    yaml_read_quoted, yaml_read_tag, yaml_refusal_t, yaml_spot_t,
+    yaml_read_quoted, yaml_read_stream_end, yaml_read_tag, yaml_refusal_t, yaml_spot_t,
 };
 use yaml_text::{yaml_mark_t, yaml_text_t};
 
@@ -75,20 +76,21 @@ pub(crate) fn decider_at(text: &yaml_text_t, at: yaml_mark_t, in_flow: bool) -> 
 #[inline(always)]
 pub(crate) fn read_plain(
     room: Vec<u8>,
-    scanner: &mut scanner_t,
+    text: &yaml_text_t,
+    state: &mut state_t,
     context: yaml_context_t,
 ) -> Result<yaml_lexeme_t, yaml_refusal_t>
-    requires place { (p : ℕ) × IsMarkOf scanner.old.text.chars scanner.old.front p }
-    requires level { IfSome context.level (λ l. l ≤ length scanner.old.text.chars) }
-    ensures { HasRead scanner.old scanner.new PLAIN context result }
+    requires place { (p : ℕ) × IsMarkOf text.now.chars state.old.front p }
+    requires level { IfSome context.level (λ l. l ≤ length text.now.chars) }
+    ensures { HasRead (scanner_of text.now state.old) (scanner_of text.now state.new) PLAIN context result }
 {
     let mut spot = yaml_spot_t {
-        text: &scanner.text,
-        at: scanner.front,
+        text: text,
+        at: state.front,
     };
     let read = yaml_read_plain(room, &mut spot, context);
     if read.is_err() {
-        scanner.there = spot.at;
+        state.there = spot.at;
     }
     read
 }
@@ -97,20 +99,22 @@ pub(crate) fn read_plain(
 #[inline(always)]
 pub(crate) fn read_quoted(
     room: Vec<u8>,
-    scanner: &mut scanner_t,
+    text: &yaml_text_t,
+    state: &mut state_t,
     single: bool,
     context: yaml_context_t,
 ) -> Result<yaml_lexeme_t, yaml_refusal_t>
-    requires { (p : ℕ) × IsMarkOf scanner.old.text.chars scanner.old.front p }
-    ensures { HasRead scanner.old scanner.new (quoted_kind single) context result }
+    requires { (p : ℕ) × IsMarkOf text.now.chars state.old.front p }
+    ensures { HasRead (scanner_of text.now state.old) (scanner_of text.now state.new)
+        (quoted_kind single) context result }
 {
     let mut spot = yaml_spot_t {
-        text: &scanner.text,
-        at: scanner.front,
+        text: text,
+        at: state.front,
     };
     let read = yaml_read_quoted(room, &mut spot, single);
     if read.is_err() {
-        scanner.there = spot.at;
+        state.there = spot.at;
     }
     read
 }
@@ -119,21 +123,23 @@ pub(crate) fn read_quoted(
 #[inline(always)]
 pub(crate) fn read_block(
     room: Vec<u8>,
-    scanner: &mut scanner_t,
+    text: &yaml_text_t,
+    state: &mut state_t,
     folded: bool,
     context: yaml_context_t,
 ) -> Result<yaml_lexeme_t, yaml_refusal_t>
-    requires place { (p : ℕ) × IsMarkOf scanner.old.text.chars scanner.old.front p }
-    requires level { IfSome context.level (λ l. l ≤ length scanner.old.text.chars) }
-    ensures { HasRead scanner.old scanner.new (block_kind folded) context result }
+    requires place { (p : ℕ) × IsMarkOf text.now.chars state.old.front p }
+    requires level { IfSome context.level (λ l. l ≤ length text.now.chars) }
+    ensures { HasRead (scanner_of text.now state.old) (scanner_of text.now state.new)
+        (block_kind folded) context result }
 {
     let mut spot = yaml_spot_t {
-        text: &scanner.text,
-        at: scanner.front,
+        text: text,
+        at: state.front,
     };
     let read = yaml_read_block(room, &mut spot, folded, context);
     if read.is_err() {
-        scanner.there = spot.at;
+        state.there = spot.at;
     }
     read
 }
@@ -141,20 +147,22 @@ pub(crate) fn read_block(
 /// The anchor or alias after the gap, or why it is refused.
 #[inline(always)]
 pub(crate) fn read_name(
-    scanner: &mut scanner_t,
+    text: &yaml_text_t,
+    state: &mut state_t,
     anchor: bool,
     context: yaml_context_t,
 ) -> Result<yaml_lexeme_t, yaml_refusal_t>
-    requires { (p : ℕ) × IsMarkOf scanner.old.text.chars scanner.old.front p }
-    ensures { HasRead scanner.old scanner.new (name_kind anchor) context result }
+    requires { (p : ℕ) × IsMarkOf text.now.chars state.old.front p }
+    ensures { HasRead (scanner_of text.now state.old) (scanner_of text.now state.new)
+        (name_kind anchor) context result }
 {
     let mut spot = yaml_spot_t {
-        text: &scanner.text,
-        at: scanner.front,
+        text: text,
+        at: state.front,
     };
-    let read = yaml_read_name(scanner.alloc, &mut spot, anchor);
+    let read = yaml_read_name(state.alloc, &mut spot, anchor);
     if read.is_err() {
-        scanner.there = spot.at;
+        state.there = spot.at;
     }
     read
 }
@@ -162,54 +170,70 @@ pub(crate) fn read_name(
 /// The tag after the gap, or why it is refused.
 #[inline(always)]
 pub(crate) fn read_tag(
-    scanner: &mut scanner_t,
+    text: &yaml_text_t,
+    state: &mut state_t,
     context: yaml_context_t,
 ) -> Result<yaml_lexeme_t, yaml_refusal_t>
-    requires { (p : ℕ) × IsMarkOf scanner.old.text.chars scanner.old.front p }
-    ensures { HasRead scanner.old scanner.new TAG context result }
+    requires { (p : ℕ) × IsMarkOf text.now.chars state.old.front p }
+    ensures { HasRead (scanner_of text.now state.old) (scanner_of text.now state.new) TAG context result }
 {
     let mut spot = yaml_spot_t {
-        text: &scanner.text,
-        at: scanner.front,
+        text: text,
+        at: state.front,
     };
-    let read = yaml_read_tag(scanner.alloc, &mut spot, context);
+    let read = yaml_read_tag(state.alloc, &mut spot, context);
     if read.is_err() {
-        scanner.there = spot.at;
+        state.there = spot.at;
     }
     read
 }
 
 /// The lexeme of one character after the gap.
 #[inline(always)]
-pub(crate) fn read_character(scanner: &scanner_t, kind: yaml_lexeme_kind_t) -> yaml_lexeme_t
-    requires place { (p : ℕ) × IsMarkOf scanner.now.text.chars scanner.now.front p
-        × ((flow : Bool) × ((source_of scanner.now.text.chars).kind flow p ≡ Some kind)) }
+pub(crate) fn read_character(
+    text: &yaml_text_t,
+    state: &state_t,
+    kind: yaml_lexeme_kind_t,
+) -> yaml_lexeme_t
+    requires place { (p : ℕ) × IsMarkOf text.now.chars state.now.front p
+        × ((flow : Bool) × ((source_of text.now.chars).kind flow p ≡ Some kind)) }
     requires kind { is_character kind ≡ true }
-    ensures { (p depth : ℕ) (level : Option ℕ) → IsMarkOf scanner.now.text.chars scanner.now.front p
-        → IsRead scanner.now.text.chars kind depth level p (lexeme_of result) }
+    ensures { (p depth : ℕ) (level : Option ℕ) → IsMarkOf text.now.chars state.now.front p
+        → IsRead text.now.chars kind depth level p (lexeme_of result) }
 {
-    yaml_read_character(&scanner.text, scanner.front, kind)
+    yaml_read_character(text, state.front, kind)
+}
+
+/// The stream end after the gap.
+#[inline(always)]
+pub(crate) fn read_stream_end(text: &yaml_text_t, state: &state_t) -> yaml_lexeme_t
+    requires { (p : ℕ) × IsMarkOf text.now.chars state.now.front p }
+    ensures { (p depth : ℕ) (level : Option ℕ) → IsMarkOf text.now.chars state.now.front p
+        → IsRead text.now.chars STREAM_END depth level p (lexeme_of result) }
+{
+    yaml_read_stream_end(text, state.front)
 }
 
 /// The lexeme of a kind after the gap, or why it is refused.
 #[inline(always)]
 pub(crate) fn read_other(
-    scanner: &mut scanner_t,
+    text: &yaml_text_t,
+    state: &mut state_t,
     kind: yaml_lexeme_kind_t,
     context: yaml_context_t,
 ) -> Result<yaml_lexeme_t, yaml_refusal_t>
-    requires place { (p : ℕ) × IsMarkOf scanner.old.text.chars scanner.old.front p
-        × ((flow : Bool) × ((source_of scanner.old.text.chars).kind flow p ≡ Some kind)) }
-    requires level { IfSome context.level (λ l. l ≤ length scanner.old.text.chars) }
-    ensures { HasRead scanner.old scanner.new kind context result }
+    requires place { (p : ℕ) × IsMarkOf text.now.chars state.old.front p
+        × ((flow : Bool) × ((source_of text.now.chars).kind flow p ≡ Some kind)) }
+    requires level { IfSome context.level (λ l. l ≤ length text.now.chars) }
+    ensures { HasRead (scanner_of text.now state.old) (scanner_of text.now state.new) kind context result }
 {
     let mut spot = yaml_spot_t {
-        text: &scanner.text,
-        at: scanner.front,
+        text: text,
+        at: state.front,
     };
-    let read = yaml_read_lexeme(scanner.alloc, &mut spot, kind, context);
+    let read = yaml_read_lexeme(state.alloc, &mut spot, kind, context);
     if read.is_err() {
-        scanner.there = spot.at;
+        state.there = spot.at;
     }
     read
 }

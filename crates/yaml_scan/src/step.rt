@@ -1,23 +1,25 @@
 //! A step: the gap, the kind of the next lexeme, the lexeme, and what the layout makes of it.
 ghost use Rattle.std.specs.Prelude.{List, ◌≡◌, ◌<◌, true, false, nat_lt, vec_len, OnOk};
 ghost use Rattle.yaml_lexeme.specs.KindSets.{block_kind, is_character, name_kind, quoted_kind};
-ghost use Rattle.yaml_lexeme.specs.declared.kind.yaml_lexeme_kind_t.TheVariants.{PLAIN, TAG};
+ghost use Rattle.yaml_lexeme.specs.declared.kind.yaml_lexeme_kind_t.TheVariants.{PLAIN, STREAM_END, TAG};
 ghost use Rattle.yaml_scan.specs.Laid.{Laid};
 ghost use Rattle.yaml_scan.specs.inside.Handed.{StepsTo};
+ghost use Rattle.yaml_scan.specs.inside.Scanner.{scanner_of};
 ghost use Rattle.yaml_scan.specs.inside.Scanning.{CanStep, Comes, IsStep};
 
 use crate::begin::begin_step;
 use crate::fault::{stop_t, stopped};
-use crate::finish::{end_character, end_laid, end_laid_queued, lay_queued, lay_read};
+use crate::finish::{end_character, end_laid, end_laid_queued, end_queued, lay_queued, lay_read};
 use crate::keys::{is_lost, root_at};
-use crate::scanner::scanner_t;
 use crate::source::{
     gap_end, kind_at, read_block, read_character, read_name, read_other, read_plain, read_quoted,
-    read_tag,
+    read_stream_end, read_tag,
 };
+use crate::state::state_t;
 use crate::stop::{stop_in_gap, stop_without_kind};
 use crate::target::{no_sink_t, yaml_token_sink_t};
 use yaml_lexeme::yaml_lexeme_kind_t;
+use yaml_text::yaml_text_t;
 
 /// The kind of a quoted scalar.
 #[inline(always)]
@@ -34,21 +36,23 @@ fn quoted_kind(single: bool) -> yaml_lexeme_kind_t
 /// Makes the step of a plain scalar.
 #[inline(never)]
 fn step_plain<const IN_FLOW: bool, const DIRECT: bool, S: yaml_token_sink_t>(
-    scanner: &mut scanner_t,
+    text: &yaml_text_t,
+    state: &mut state_t,
     sink: &mut S,
 ) -> Result<(), stop_t>
     ghost before: { List Laid }
-    requires { Comes before scanner.old IN_FLOW PLAIN }
-    ensures steps { StepsTo before scanner.old scanner.new DIRECT (λ tokens. S.took sink.old tokens sink.new)
+    requires { Comes before (scanner_of text.now state.old) IN_FLOW PLAIN }
+    ensures steps { StepsTo before (scanner_of text.now state.old) (scanner_of text.now state.new) DIRECT
+        (λ tokens. S.took sink.old tokens sink.new)
         S.may_refuse result }
     ensures within { OnOk result (S.within sink.old → S.within sink.new) }
 {
-    match begin_step(scanner, IN_FLOW, yaml_lexeme_kind_t::PLAIN) {
+    match begin_step(text, state, IN_FLOW, yaml_lexeme_kind_t::PLAIN) {
         Ok(step) => {
-            let room = sink.room(scanner.alloc);
-            let read = read_plain(room, scanner, step.context);
-            match lay_read::<DIRECT, S>(scanner, sink, step, read) {
-                Ok((laid, token)) => end_laid::<DIRECT, S>(scanner, sink, laid, token),
+            let room = sink.room(state.alloc);
+            let read = read_plain(room, text, state, step.context);
+            match lay_read::<DIRECT, S>(text, state, sink, step, read) {
+                Ok((laid, token)) => end_laid::<DIRECT, S>(state, sink, laid, token),
                 Err(stop) => Err(stopped(stop)),
             }
         }
@@ -59,21 +63,23 @@ fn step_plain<const IN_FLOW: bool, const DIRECT: bool, S: yaml_token_sink_t>(
 /// Makes the step of a scalar in single or double quotes.
 #[inline(never)]
 fn step_quoted<const IN_FLOW: bool, const SINGLE: bool, const DIRECT: bool, S: yaml_token_sink_t>(
-    scanner: &mut scanner_t,
+    text: &yaml_text_t,
+    state: &mut state_t,
     sink: &mut S,
 ) -> Result<(), stop_t>
     ghost before: { List Laid }
-    requires { Comes before scanner.old IN_FLOW (quoted_kind SINGLE) }
-    ensures steps { StepsTo before scanner.old scanner.new DIRECT (λ tokens. S.took sink.old tokens sink.new)
+    requires { Comes before (scanner_of text.now state.old) IN_FLOW (quoted_kind SINGLE) }
+    ensures steps { StepsTo before (scanner_of text.now state.old) (scanner_of text.now state.new) DIRECT
+        (λ tokens. S.took sink.old tokens sink.new)
         S.may_refuse result }
     ensures within { OnOk result (S.within sink.old → S.within sink.new) }
 {
-    match begin_step(scanner, IN_FLOW, quoted_kind(SINGLE)) {
+    match begin_step(text, state, IN_FLOW, quoted_kind(SINGLE)) {
         Ok(step) => {
-            let room = sink.room(scanner.alloc);
-            let read = read_quoted(room, scanner, SINGLE, step.context);
-            match lay_read::<DIRECT, S>(scanner, sink, step, read) {
-                Ok((laid, token)) => end_laid::<DIRECT, S>(scanner, sink, laid, token),
+            let room = sink.room(state.alloc);
+            let read = read_quoted(room, text, state, SINGLE, step.context);
+            match lay_read::<DIRECT, S>(text, state, sink, step, read) {
+                Ok((laid, token)) => end_laid::<DIRECT, S>(state, sink, laid, token),
                 Err(stop) => Err(stopped(stop)),
             }
         }
@@ -84,21 +90,23 @@ fn step_quoted<const IN_FLOW: bool, const SINGLE: bool, const DIRECT: bool, S: y
 /// Makes the step of a literal scalar.
 #[inline(never)]
 fn step_literal<const IN_FLOW: bool, const DIRECT: bool, S: yaml_token_sink_t>(
-    scanner: &mut scanner_t,
+    text: &yaml_text_t,
+    state: &mut state_t,
     sink: &mut S,
 ) -> Result<(), stop_t>
     ghost before: { List Laid }
-    requires { Comes before scanner.old IN_FLOW (block_kind false) }
-    ensures steps { StepsTo before scanner.old scanner.new DIRECT (λ tokens. S.took sink.old tokens sink.new)
+    requires { Comes before (scanner_of text.now state.old) IN_FLOW (block_kind false) }
+    ensures steps { StepsTo before (scanner_of text.now state.old) (scanner_of text.now state.new) DIRECT
+        (λ tokens. S.took sink.old tokens sink.new)
         S.may_refuse result }
     ensures within { OnOk result (S.within sink.old → S.within sink.new) }
 {
-    match begin_step(scanner, IN_FLOW, yaml_lexeme_kind_t::LITERAL) {
+    match begin_step(text, state, IN_FLOW, yaml_lexeme_kind_t::LITERAL) {
         Ok(step) => {
-            let room = sink.room(scanner.alloc);
-            let read = read_block(room, scanner, false, step.context);
-            match lay_read::<DIRECT, S>(scanner, sink, step, read) {
-                Ok((laid, token)) => end_laid::<DIRECT, S>(scanner, sink, laid, token),
+            let room = sink.room(state.alloc);
+            let read = read_block(room, text, state, false, step.context);
+            match lay_read::<DIRECT, S>(text, state, sink, step, read) {
+                Ok((laid, token)) => end_laid::<DIRECT, S>(state, sink, laid, token),
                 Err(stop) => Err(stopped(stop)),
             }
         }
@@ -120,16 +128,19 @@ fn name_kind(anchor: bool) -> yaml_lexeme_kind_t
 
 /// Makes the step of an anchor or an alias. Its group goes into the queue, so one function serves every sink.
 #[inline(never)]
-fn step_name<const IN_FLOW: bool, const ANCHOR: bool>(scanner: &mut scanner_t) -> Result<(), stop_t>
+fn step_name<const IN_FLOW: bool, const ANCHOR: bool>(
+    text: &yaml_text_t,
+    state: &mut state_t,
+) -> Result<(), stop_t>
     ghost before: { List Laid }
-    requires { Comes before scanner.old IN_FLOW (name_kind ANCHOR) }
-    ensures { IsStep before scanner.old scanner.new result }
+    requires { Comes before (scanner_of text.now state.old) IN_FLOW (name_kind ANCHOR) }
+    ensures { IsStep before (scanner_of text.now state.old) (scanner_of text.now state.new) result }
 {
-    match begin_step(scanner, IN_FLOW, name_kind(ANCHOR)) {
+    match begin_step(text, state, IN_FLOW, name_kind(ANCHOR)) {
         Ok(step) => {
-            let read = read_name(scanner, ANCHOR, step.context);
-            match lay_queued(scanner, step, read) {
-                Ok((laid, token)) => end_laid_queued(scanner, laid, token),
+            let read = read_name(text, state, ANCHOR, step.context);
+            match lay_queued(text, state, step, read) {
+                Ok((laid, token)) => end_laid_queued(state, laid, token),
                 Err(stop) => Err(stopped(stop)),
             }
         }
@@ -139,16 +150,16 @@ fn step_name<const IN_FLOW: bool, const ANCHOR: bool>(scanner: &mut scanner_t) -
 
 /// Makes the step of a tag. Its group goes into the queue, so one function serves every sink.
 #[inline(never)]
-fn step_tag<const IN_FLOW: bool>(scanner: &mut scanner_t) -> Result<(), stop_t>
+fn step_tag<const IN_FLOW: bool>(text: &yaml_text_t, state: &mut state_t) -> Result<(), stop_t>
     ghost before: { List Laid }
-    requires { Comes before scanner.old IN_FLOW TAG }
-    ensures { IsStep before scanner.old scanner.new result }
+    requires { Comes before (scanner_of text.now state.old) IN_FLOW TAG }
+    ensures { IsStep before (scanner_of text.now state.old) (scanner_of text.now state.new) result }
 {
-    match begin_step(scanner, IN_FLOW, yaml_lexeme_kind_t::TAG) {
+    match begin_step(text, state, IN_FLOW, yaml_lexeme_kind_t::TAG) {
         Ok(step) => {
-            let read = read_tag(scanner, step.context);
-            match lay_queued(scanner, step, read) {
-                Ok((laid, token)) => end_laid_queued(scanner, laid, token),
+            let read = read_tag(text, state, step.context);
+            match lay_queued(text, state, step, read) {
+                Ok((laid, token)) => end_laid_queued(state, laid, token),
                 Err(stop) => Err(stopped(stop)),
             }
         }
@@ -159,22 +170,43 @@ fn step_tag<const IN_FLOW: bool>(scanner: &mut scanner_t) -> Result<(), stop_t>
 /// Makes the step of a lexeme of one character.
 #[inline(always)]
 fn step_character<const DIRECT: bool, S: yaml_token_sink_t>(
-    scanner: &mut scanner_t,
+    text: &yaml_text_t,
+    state: &mut state_t,
     sink: &mut S,
     in_flow: bool,
     kind: yaml_lexeme_kind_t,
 ) -> Result<(), stop_t>
     ghost before: { List Laid }
-    requires comes { Comes before scanner.old in_flow kind }
+    requires comes { Comes before (scanner_of text.now state.old) in_flow kind }
     requires kind { is_character kind ≡ true }
-    ensures steps { StepsTo before scanner.old scanner.new DIRECT (λ tokens. S.took sink.old tokens sink.new)
+    ensures steps { StepsTo before (scanner_of text.now state.old) (scanner_of text.now state.new) DIRECT
+        (λ tokens. S.took sink.old tokens sink.new)
         S.may_refuse result }
     ensures within { OnOk result (S.within sink.old → S.within sink.new) }
 {
-    match begin_step(scanner, in_flow, kind) {
+    match begin_step(text, state, in_flow, kind) {
         Ok(step) => {
-            let lexeme = read_character(scanner, kind);
-            end_character::<DIRECT, S>(scanner, sink, step, lexeme)
+            let lexeme = read_character(text, state, kind);
+            end_character::<DIRECT, S>(text, state, sink, step, lexeme)
+        }
+        Err(stop) => Err(stopped(stop)),
+    }
+}
+
+/// Makes the step of the stream end. Its group goes into the queue, so one function serves every sink.
+#[inline(never)]
+fn step_stream_end<const IN_FLOW: bool>(
+    text: &yaml_text_t,
+    state: &mut state_t,
+) -> Result<(), stop_t>
+    ghost before: { List Laid }
+    requires { Comes before (scanner_of text.now state.old) IN_FLOW STREAM_END }
+    ensures { IsStep before (scanner_of text.now state.old) (scanner_of text.now state.new) result }
+{
+    match begin_step(text, state, IN_FLOW, yaml_lexeme_kind_t::STREAM_END) {
+        Ok(step) => {
+            let lexeme = read_stream_end(text, state);
+            end_queued(text, state, step, lexeme)
         }
         Err(stop) => Err(stopped(stop)),
     }
@@ -184,18 +216,19 @@ fn step_character<const DIRECT: bool, S: yaml_token_sink_t>(
 /// one function serves every sink.
 #[inline(never)]
 fn step_other<const IN_FLOW: bool>(
-    scanner: &mut scanner_t,
+    text: &yaml_text_t,
+    state: &mut state_t,
     kind: yaml_lexeme_kind_t,
 ) -> Result<(), stop_t>
     ghost before: { List Laid }
-    requires { Comes before scanner.old IN_FLOW kind }
-    ensures { IsStep before scanner.old scanner.new result }
+    requires { Comes before (scanner_of text.now state.old) IN_FLOW kind }
+    ensures { IsStep before (scanner_of text.now state.old) (scanner_of text.now state.new) result }
 {
-    match begin_step(scanner, IN_FLOW, kind) {
+    match begin_step(text, state, IN_FLOW, kind) {
         Ok(step) => {
-            let read = read_other(scanner, kind, step.context);
-            match lay_queued(scanner, step, read) {
-                Ok((laid, token)) => end_laid_queued(scanner, laid, token),
+            let read = read_other(text, state, kind, step.context);
+            match lay_queued(text, state, step, read) {
+                Ok((laid, token)) => end_laid_queued(state, laid, token),
                 Err(stop) => Err(stopped(stop)),
             }
         }
@@ -207,47 +240,55 @@ fn step_other<const IN_FLOW: bool>(
 /// kind pays for the room that another needs. Common kinds are constants there.
 #[inline(always)]
 fn step_kind<const IN_FLOW: bool, const DIRECT: bool, S: yaml_token_sink_t>(
-    scanner: &mut scanner_t,
+    text: &yaml_text_t,
+    state: &mut state_t,
     sink: &mut S,
     kind: yaml_lexeme_kind_t,
 ) -> Result<(), stop_t>
     ghost before: { List Laid }
-    requires { Comes before scanner.old IN_FLOW kind }
-    ensures steps { StepsTo before scanner.old scanner.new DIRECT (λ tokens. S.took sink.old tokens sink.new)
+    requires { Comes before (scanner_of text.now state.old) IN_FLOW kind }
+    ensures steps { StepsTo before (scanner_of text.now state.old) (scanner_of text.now state.new) DIRECT
+        (λ tokens. S.took sink.old tokens sink.new)
         S.may_refuse result }
     ensures within { OnOk result (S.within sink.old → S.within sink.new) }
 {
     match kind {
-        yaml_lexeme_kind_t::PLAIN => step_plain::<IN_FLOW, DIRECT, S>(scanner, sink),
-        yaml_lexeme_kind_t::SINGLE_QUOTED => step_quoted::<IN_FLOW, true, DIRECT, S>(scanner, sink),
-        yaml_lexeme_kind_t::DOUBLE_QUOTED => step_quoted::<IN_FLOW, false, DIRECT, S>(
-            scanner, sink,
+        yaml_lexeme_kind_t::PLAIN => step_plain::<IN_FLOW, DIRECT, S>(text, state, sink),
+        yaml_lexeme_kind_t::SINGLE_QUOTED => step_quoted::<IN_FLOW, true, DIRECT, S>(
+            text, state, sink,
         ),
-        yaml_lexeme_kind_t::LITERAL => step_literal::<IN_FLOW, DIRECT, S>(scanner, sink),
-        yaml_lexeme_kind_t::ALIAS => step_name::<IN_FLOW, false>(scanner),
-        yaml_lexeme_kind_t::ANCHOR => step_name::<IN_FLOW, true>(scanner),
-        yaml_lexeme_kind_t::TAG => step_tag::<IN_FLOW>(scanner),
+        yaml_lexeme_kind_t::DOUBLE_QUOTED => step_quoted::<IN_FLOW, false, DIRECT, S>(
+            text, state, sink,
+        ),
+        yaml_lexeme_kind_t::LITERAL => step_literal::<IN_FLOW, DIRECT, S>(text, state, sink),
+        yaml_lexeme_kind_t::ALIAS => step_name::<IN_FLOW, false>(text, state),
+        yaml_lexeme_kind_t::ANCHOR => step_name::<IN_FLOW, true>(text, state),
+        yaml_lexeme_kind_t::TAG => step_tag::<IN_FLOW>(text, state),
+        yaml_lexeme_kind_t::STREAM_END => step_stream_end::<IN_FLOW>(text, state),
         yaml_lexeme_kind_t::VALUE => step_character::<DIRECT, S>(
-            scanner,
+            text,
+            state,
             sink,
             IN_FLOW,
             yaml_lexeme_kind_t::VALUE,
         ),
         yaml_lexeme_kind_t::KEY => step_character::<DIRECT, S>(
-            scanner,
+            text,
+            state,
             sink,
             IN_FLOW,
             yaml_lexeme_kind_t::KEY,
         ),
         yaml_lexeme_kind_t::BLOCK_ENTRY => {
-            step_character::<DIRECT, S>(scanner, sink, IN_FLOW, yaml_lexeme_kind_t::BLOCK_ENTRY)
+            step_character::<DIRECT, S>(text, state, sink, IN_FLOW, yaml_lexeme_kind_t::BLOCK_ENTRY)
         }
         yaml_lexeme_kind_t::FLOW_ENTRY => {
-            step_character::<DIRECT, S>(scanner, sink, IN_FLOW, yaml_lexeme_kind_t::FLOW_ENTRY)
+            step_character::<DIRECT, S>(text, state, sink, IN_FLOW, yaml_lexeme_kind_t::FLOW_ENTRY)
         }
         yaml_lexeme_kind_t::FLOW_SEQUENCE_START => {
             step_character::<DIRECT, S>(
-                scanner,
+                text,
+                state,
                 sink,
                 IN_FLOW,
                 yaml_lexeme_kind_t::FLOW_SEQUENCE_START,
@@ -255,7 +296,8 @@ fn step_kind<const IN_FLOW: bool, const DIRECT: bool, S: yaml_token_sink_t>(
         }
         yaml_lexeme_kind_t::FLOW_MAPPING_START => {
             step_character::<DIRECT, S>(
-                scanner,
+                text,
+                state,
                 sink,
                 IN_FLOW,
                 yaml_lexeme_kind_t::FLOW_MAPPING_START,
@@ -263,7 +305,8 @@ fn step_kind<const IN_FLOW: bool, const DIRECT: bool, S: yaml_token_sink_t>(
         }
         yaml_lexeme_kind_t::FLOW_SEQUENCE_END => {
             step_character::<DIRECT, S>(
-                scanner,
+                text,
+                state,
                 sink,
                 IN_FLOW,
                 yaml_lexeme_kind_t::FLOW_SEQUENCE_END,
@@ -271,121 +314,132 @@ fn step_kind<const IN_FLOW: bool, const DIRECT: bool, S: yaml_token_sink_t>(
         }
         yaml_lexeme_kind_t::FLOW_MAPPING_END => {
             step_character::<DIRECT, S>(
-                scanner,
+                text,
+                state,
                 sink,
                 IN_FLOW,
                 yaml_lexeme_kind_t::FLOW_MAPPING_END,
             )
         }
-        _ => step_other::<IN_FLOW>(scanner, kind),
+        _ => step_other::<IN_FLOW>(text, state, kind),
     }
 }
 
 /// Makes the step of a lexeme of a kind, after the gap. `in_flow`: the scanner is inside a flow collection.
 #[inline(always)]
 fn step_any<const DIRECT: bool, S: yaml_token_sink_t>(
-    scanner: &mut scanner_t,
+    text: &yaml_text_t,
+    state: &mut state_t,
     sink: &mut S,
     in_flow: bool,
     kind: yaml_lexeme_kind_t,
 ) -> Result<(), stop_t>
     ghost before: { List Laid }
-    requires { Comes before scanner.old in_flow kind }
-    ensures steps { StepsTo before scanner.old scanner.new DIRECT (λ tokens. S.took sink.old tokens sink.new)
+    requires { Comes before (scanner_of text.now state.old) in_flow kind }
+    ensures steps { StepsTo before (scanner_of text.now state.old) (scanner_of text.now state.new) DIRECT
+        (λ tokens. S.took sink.old tokens sink.new)
         S.may_refuse result }
     ensures within { OnOk result (S.within sink.old → S.within sink.new) }
 {
     if in_flow {
-        step_kind::<true, DIRECT, S>(scanner, sink, kind)
+        step_kind::<true, DIRECT, S>(text, state, sink, kind)
     } else {
-        step_kind::<false, DIRECT, S>(scanner, sink, kind)
+        step_kind::<false, DIRECT, S>(text, state, sink, kind)
     }
 }
 
 /// Makes a step. `in_flow`: the scanner is inside a flow collection.
 #[inline(always)]
 fn step_at<const DIRECT: bool, S: yaml_token_sink_t>(
-    scanner: &mut scanner_t,
+    text: &yaml_text_t,
+    state: &mut state_t,
     sink: &mut S,
     in_flow: bool,
 ) -> Result<(), stop_t>
     ghost before: { List Laid }
-    requires can { CanStep before scanner.old }
-    requires flow { in_flow ≡ nat_lt 0 (vec_len scanner.old.slots.outer) }
-    ensures steps { StepsTo before scanner.old scanner.new DIRECT (λ tokens. S.took sink.old tokens sink.new)
+    requires can { CanStep before (scanner_of text.now state.old) }
+    requires flow { in_flow ≡ nat_lt 0 (vec_len state.old.slots.outer) }
+    ensures steps { StepsTo before (scanner_of text.now state.old) (scanner_of text.now state.new) DIRECT
+        (λ tokens. S.took sink.old tokens sink.new)
         S.may_refuse result }
     ensures within { OnOk result (S.within sink.old → S.within sink.new) }
 {
-    let front = gap_end(&scanner.text, scanner.reach, in_flow, scanner.allowed);
-    scanner.front = front;
-    let root = root_at(&scanner.slots.outer, scanner.slots.top, in_flow);
-    if is_lost(root, in_flow, scanner.limit, front) {
-        return Err(stop_in_gap(scanner));
+    let front = gap_end(text, state.reach, in_flow, state.allowed);
+    state.front = front;
+    let root = root_at(&state.slots.outer, state.slots.top, in_flow);
+    if is_lost(root, in_flow, state.limit, front) {
+        return Err(stop_in_gap(text, state));
     }
-    match kind_at(&scanner.text, front, in_flow) {
-        Some(kind) => step_any::<DIRECT, S>(scanner, sink, in_flow, kind),
-        None => Err(stop_without_kind(scanner)),
+    match kind_at(text, front, in_flow) {
+        Some(kind) => step_any::<DIRECT, S>(text, state, sink, in_flow, kind),
+        None => Err(stop_without_kind(text, state)),
     }
 }
 
 /// Makes a step outside flow collections, where columns count.
 #[inline(never)]
 fn step_in_block<const DIRECT: bool, S: yaml_token_sink_t>(
-    scanner: &mut scanner_t,
+    text: &yaml_text_t,
+    state: &mut state_t,
     sink: &mut S,
 ) -> Result<(), stop_t>
     ghost before: { List Laid }
-    requires can { CanStep before scanner.old }
-    requires block { vec_len scanner.old.slots.outer ≡ 0 }
-    ensures steps { StepsTo before scanner.old scanner.new DIRECT (λ tokens. S.took sink.old tokens sink.new)
+    requires can { CanStep before (scanner_of text.now state.old) }
+    requires block { vec_len state.old.slots.outer ≡ 0 }
+    ensures steps { StepsTo before (scanner_of text.now state.old) (scanner_of text.now state.new) DIRECT
+        (λ tokens. S.took sink.old tokens sink.new)
         S.may_refuse result }
     ensures within { OnOk result (S.within sink.old → S.within sink.new) }
 {
-    step_at::<DIRECT, S>(scanner, sink, false)
+    step_at::<DIRECT, S>(text, state, sink, false)
 }
 
 /// Makes a step inside a flow collection.
 #[inline(never)]
 fn step_in_flow<const DIRECT: bool, S: yaml_token_sink_t>(
-    scanner: &mut scanner_t,
+    text: &yaml_text_t,
+    state: &mut state_t,
     sink: &mut S,
 ) -> Result<(), stop_t>
     ghost before: { List Laid }
-    requires can { CanStep before scanner.old }
-    requires flow { 0 < vec_len scanner.old.slots.outer }
-    ensures steps { StepsTo before scanner.old scanner.new DIRECT (λ tokens. S.took sink.old tokens sink.new)
+    requires can { CanStep before (scanner_of text.now state.old) }
+    requires flow { 0 < vec_len state.old.slots.outer }
+    ensures steps { StepsTo before (scanner_of text.now state.old) (scanner_of text.now state.new) DIRECT
+        (λ tokens. S.took sink.old tokens sink.new)
         S.may_refuse result }
     ensures within { OnOk result (S.within sink.old → S.within sink.new) }
 {
-    step_at::<DIRECT, S>(scanner, sink, true)
+    step_at::<DIRECT, S>(text, state, sink, true)
 }
 
 /// Makes a step, or two if the next token needs both, and hands on their groups: straight to the sink if `DIRECT` and
 /// they need not wait, and else into the queue.
 #[inline(always)]
 pub(crate) fn step_to<const DIRECT: bool, S: yaml_token_sink_t>(
-    scanner: &mut scanner_t,
+    text: &yaml_text_t,
+    state: &mut state_t,
     sink: &mut S,
 ) -> Result<(), stop_t>
     ghost before: { List Laid }
-    requires { CanStep before scanner.old }
-    ensures steps { StepsTo before scanner.old scanner.new DIRECT (λ tokens. S.took sink.old tokens sink.new)
+    requires { CanStep before (scanner_of text.now state.old) }
+    ensures steps { StepsTo before (scanner_of text.now state.old) (scanner_of text.now state.new) DIRECT
+        (λ tokens. S.took sink.old tokens sink.new)
         S.may_refuse result }
     ensures within { OnOk result (S.within sink.old → S.within sink.new) }
 {
-    if scanner.slots.outer.is_empty() {
-        step_in_block::<DIRECT, S>(scanner, sink)
+    if state.slots.outer.is_empty() {
+        step_in_block::<DIRECT, S>(text, state, sink)
     } else {
-        step_in_flow::<DIRECT, S>(scanner, sink)
+        step_in_flow::<DIRECT, S>(text, state, sink)
     }
 }
 
 /// Makes a step, or two if the next token needs both. Their groups go into the queue.
 #[inline(always)]
-pub(crate) fn step(scanner: &mut scanner_t) -> Result<(), stop_t>
+pub(crate) fn step(text: &yaml_text_t, state: &mut state_t) -> Result<(), stop_t>
     ghost before: { List Laid }
-    requires { CanStep before scanner.old }
-    ensures { IsStep before scanner.old scanner.new result }
+    requires { CanStep before (scanner_of text.now state.old) }
+    ensures { IsStep before (scanner_of text.now state.old) (scanner_of text.now state.new) result }
 {
-    step_to::<false, no_sink_t>(scanner, &mut no_sink_t {})
+    step_to::<false, no_sink_t>(text, state, &mut no_sink_t {})
 }

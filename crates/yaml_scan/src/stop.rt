@@ -10,6 +10,7 @@ ghost use Rattle.yaml_scan.specs.Laid.{Laid};
 ghost use Rattle.yaml_scan.specs.SourceOf.{source_of};
 ghost use Rattle.yaml_scan.specs.Step.{front_of, no_colon, in_simple_key};
 ghost use Rattle.yaml_scan.specs.inside.Slots.{lost_held, root_of};
+ghost use Rattle.yaml_scan.specs.inside.Scanner.{scanner_of};
 ghost use Rattle.yaml_scan.specs.inside.Scanning.{CanRead, CanStep, Comes, Ends, StopsAfter, IsReadIn, Offends};
 ghost use Rattle.yaml_scan.specs.inside.Scanning.{Passes, Refuses};
 ghost use Rattle.yaml_scan.specs.inside.Scanning.{allowed_in, cleared_in, refused_in};
@@ -19,20 +20,20 @@ use crate::fault::{make_scanner_fault, stop_t};
 use crate::keys::{lost_at, root};
 use crate::kind::start_after;
 use crate::look::{cleared_by, refused_by, root_after, step_of};
-use crate::scanner::scanner_t;
 use crate::slots::candidate_t;
+use crate::state::state_t;
 use yaml_lexeme::{yaml_lexeme_fault, yaml_lexeme_kind_t, yaml_refusal_t};
-use yaml_text::{yaml_fault_t, yaml_mark_t};
+use yaml_text::{yaml_fault_t, yaml_mark_t, yaml_text_t};
 
 /// A fault of the scanner, or the reader's if that is near it.
-fn nearest(scanner: &scanner_t, fault: yaml_fault_t) -> yaml_fault_t
+fn nearest(_text: &yaml_text_t, state: &state_t, fault: yaml_fault_t) -> yaml_fault_t
     ghost before: { List Laid }
-    requires can { CanStep before scanner.now }
-    requires offends { Offends before scanner.now (fault_of fault) }
-    ensures { Ends before scanner.now (fault_of result) }
+    requires can { CanStep before (scanner_of _text.now state.now) }
+    requires offends { Offends before (scanner_of _text.now state.now) (fault_of fault) }
+    ensures { Ends before (scanner_of _text.now state.now) (fault_of result) }
 {
-    match scanner.refusal {
-        Some(refused) => if scanner.near <= fault.problem_mark.index {
+    match state.fault {
+        Some(refused) => if state.near <= fault.problem_mark.index {
             refused
         } else {
             fault
@@ -42,37 +43,41 @@ fn nearest(scanner: &scanner_t, fault: yaml_fault_t) -> yaml_fault_t
 }
 
 /// Keeps a fault of the scanner, or the reader's if that is near it.
-fn keep_nearest(scanner: &mut scanner_t, fault: yaml_fault_t) -> stop_t
+fn keep_nearest(text: &yaml_text_t, state: &mut state_t, fault: yaml_fault_t) -> stop_t
     ghost before: { List Laid }
-    requires can { CanStep before scanner.old }
-    requires offends { Offends before scanner.old (fault_of fault) }
-    ensures { Refuses before scanner.old scanner.new result }
+    requires can { CanStep before (scanner_of text.now state.old) }
+    requires offends { Offends before (scanner_of text.now state.old) (fault_of fault) }
+    ensures { Refuses before (scanner_of text.now state.old) (scanner_of text.now state.new) result }
 {
-    scanner.kept = nearest(scanner, fault);
+    state.fault = Some(nearest(text, state, fault));
     stop_t::FAULT
 }
 
 /// Stops near the reader's fault.
-fn stop_near(scanner: &mut scanner_t) -> stop_t
+fn stop_near(_text: &yaml_text_t, state: &state_t) -> stop_t
     ghost before: { List Laid }
-    requires { (f : Fault) × (refusal_seen scanner.old.refusal ≡ Some f) × Ends before scanner.old f }
-    ensures { Refuses before scanner.old scanner.new result }
+    requires { (f : Fault) × (refusal_seen state.now.fault ≡ Some f) × Ends before
+        (scanner_of _text.now state.now) f }
+    ensures { Refuses before (scanner_of _text.now state.now) (scanner_of _text.now state.now) result }
 {
-    match scanner.refusal {
-        Some(refused) => {
-            scanner.kept = refused;
-            stop_t::FAULT
-        }
+    match state.fault {
+        Some(_) => stop_t::FAULT,
         None => unreachable!(),
     }
 }
 
 /// Stops at a mark, since a candidate is lost.
-fn stop_without(scanner: &mut scanner_t, held: candidate_t, mark: yaml_mark_t) -> stop_t
+fn stop_without(
+    text: &yaml_text_t,
+    state: &mut state_t,
+    held: candidate_t,
+    mark: yaml_mark_t,
+) -> stop_t
     ghost before: { List Laid }
-    requires can { CanStep before scanner.old }
-    requires offends { Offends before scanner.old (scanner_fault no_colon mark (Some in_simple_key) held.start) }
-    ensures { Refuses before scanner.old scanner.new result }
+    requires can { CanStep before (scanner_of text.now state.old) }
+    requires offends { Offends before (scanner_of text.now state.old) (scanner_fault no_colon mark
+        (Some in_simple_key) held.start) }
+    ensures { Refuses before (scanner_of text.now state.old) (scanner_of text.now state.new) result }
 {
     let fault = make_scanner_fault(
         "could not find expected ':'",
@@ -80,65 +85,67 @@ fn stop_without(scanner: &mut scanner_t, held: candidate_t, mark: yaml_mark_t) -
         Some("while scanning a simple key"),
         held.start,
     );
-    keep_nearest(scanner, fault)
+    keep_nearest(text, state, fault)
 }
 
 /// Stops at the end of the gap, since the candidate of depth 0 is lost there.
 #[cold]
-pub(crate) fn stop_in_gap(scanner: &mut scanner_t) -> stop_t
+pub(crate) fn stop_in_gap(text: &yaml_text_t, state: &mut state_t) -> stop_t
     ghost before: { List Laid }
-    requires can { CanStep before scanner.old }
-    requires front { IsMarkOf scanner.old.text.chars scanner.old.front
-        (front_of (source_of scanner.old.text.chars) before) }
-    requires lost { is_some (lost_held scanner.old.limit scanner.old.front
-        (root_of scanner.old.slots.outer.items scanner.old.slots.top)) ≡ true }
-    ensures { Refuses before scanner.old scanner.new result }
+    requires can { CanStep before (scanner_of text.now state.old) }
+    requires front { IsMarkOf text.now.chars state.old.front
+        (front_of (source_of text.now.chars) before) }
+    requires lost { is_some (lost_held state.old.limit state.old.front
+        (root_of state.old.slots.outer.items state.old.slots.top)) ≡ true }
+    ensures { Refuses before (scanner_of text.now state.old) (scanner_of text.now state.new) result }
 {
-    let front = scanner.front;
-    let root = root(&scanner.slots.outer, scanner.slots.top);
-    match lost_at(root, scanner.limit, front) {
-        Some(held) => stop_without(scanner, held, front),
+    let front = state.front;
+    let root = root(&state.slots.outer, state.slots.top);
+    match lost_at(root, state.limit, front) {
+        Some(held) => stop_without(text, state, held, front),
         None => unreachable!(),
     }
 }
 
 /// Stops after the gap, since no lexeme starts there.
 #[cold]
-pub(crate) fn stop_without_kind(scanner: &mut scanner_t) -> stop_t
+pub(crate) fn stop_without_kind(text: &yaml_text_t, state: &mut state_t) -> stop_t
     ghost before: { List Laid }
-    requires { (in_flow : Bool) × Passes before scanner.old in_flow
-        × ((source_of scanner.old.text.chars).kind in_flow
-        (front_of (source_of scanner.old.text.chars) before) ≡ None) }
-    ensures { Refuses before scanner.old scanner.new result }
+    requires { (in_flow : Bool) × Passes before (scanner_of text.now state.old) in_flow
+        × ((source_of text.now.chars).kind in_flow
+        (front_of (source_of text.now.chars) before) ≡ None) }
+    ensures { Refuses before (scanner_of text.now state.old) (scanner_of text.now state.new) result }
 {
-    let front = scanner.front;
+    let front = state.front;
     let fault = make_scanner_fault(
         "found character that cannot start any token",
         front,
         Some("while scanning for the next token"),
         front,
     );
-    keep_nearest(scanner, fault)
+    keep_nearest(text, state, fault)
 }
 
 /// Stops after the gap, since the kind of the lexeme there needs an allowed key and none is allowed.
 #[cold]
 pub(crate) fn stop_at_kind(
-    scanner: &mut scanner_t,
+    text: &yaml_text_t,
+    state: &mut state_t,
     in_flow: bool,
     kind: yaml_lexeme_kind_t,
 ) -> stop_t
     ghost before: { List Laid }
-    requires comes { Comes before scanner.old in_flow kind }
-    requires refused { is_some (refused_in scanner.old in_flow kind (allowed_in scanner.old in_flow)) ≡ true }
-    ensures { Refuses before scanner.old scanner.new result }
+    requires comes { Comes before (scanner_of text.now state.old) in_flow kind }
+    requires refused { is_some (refused_in (scanner_of text.now state.old) in_flow kind
+        (allowed_in (scanner_of text.now state.old) in_flow)) ≡ true }
+    ensures { Refuses before (scanner_of text.now state.old) (scanner_of text.now state.new) result }
 {
-    let front = scanner.front;
-    let allowed = is_key_allowed(scanner.allowed, in_flow, scanner.reach, front);
-    match refused_by(scanner, in_flow, kind, allowed) {
+    let front = state.front;
+    let allowed = is_key_allowed(state.allowed, in_flow, state.reach, front);
+    match refused_by(state, in_flow, kind, allowed) {
         Some(problem) => {
             let fault = make_scanner_fault(problem, front, None, front);
-            keep_nearest(scanner, fault)
+            keep_nearest(text, state, fault)
         }
         None => unreachable!(),
     }
@@ -147,20 +154,23 @@ pub(crate) fn stop_at_kind(
 /// Stops at the start of a lexeme, since it would clear or replace a required candidate.
 #[cold]
 pub(crate) fn stop_at_start(
-    scanner: &mut scanner_t,
+    text: &yaml_text_t,
+    state: &mut state_t,
     in_flow: bool,
     kind: yaml_lexeme_kind_t,
 ) -> stop_t
     ghost before: { List Laid }
-    requires comes { Comes before scanner.old in_flow kind }
-    requires accepted { refused_in scanner.old in_flow kind (allowed_in scanner.old in_flow) ≡ None }
-    requires cleared { is_some (cleared_in scanner.old in_flow kind (allowed_in scanner.old in_flow)) ≡ true }
-    ensures { Refuses before scanner.old scanner.new result }
+    requires comes { Comes before (scanner_of text.now state.old) in_flow kind }
+    requires accepted { refused_in (scanner_of text.now state.old) in_flow kind
+        (allowed_in (scanner_of text.now state.old) in_flow) ≡ None }
+    requires cleared { is_some (cleared_in (scanner_of text.now state.old) in_flow kind
+        (allowed_in (scanner_of text.now state.old) in_flow)) ≡ true }
+    ensures { Refuses before (scanner_of text.now state.old) (scanner_of text.now state.new) result }
 {
-    let front = scanner.front;
-    let allowed = is_key_allowed(scanner.allowed, in_flow, scanner.reach, front);
-    match cleared_by(scanner, in_flow, kind, allowed) {
-        Some(held) => stop_without(scanner, held, start_after(kind, front)),
+    let front = state.front;
+    let allowed = is_key_allowed(state.allowed, in_flow, state.reach, front);
+    match cleared_by(state, in_flow, kind, allowed) {
+        Some(held) => stop_without(text, state, held, start_after(kind, front)),
         None => unreachable!(),
     }
 }
@@ -168,20 +178,21 @@ pub(crate) fn stop_at_start(
 /// Stops in a lexeme that was refused.
 #[cold]
 pub(crate) fn stop_in_lexeme(
-    scanner: &mut scanner_t,
+    text: &yaml_text_t,
+    state: &mut state_t,
     kind: yaml_lexeme_kind_t,
     refusal: yaml_refusal_t,
 ) -> stop_t
     ghost before: { List Laid }
-    requires { (step : step_t) × CanRead before scanner.old step × (step.kind ≡ kind)
-        × IsReadIn scanner.old kind step.context scanner.old.there (Err refusal) }
-    ensures { Refuses before scanner.old scanner.new result }
+    requires { (step : step_t) × CanRead before (scanner_of text.now state.old) step × (step.kind ≡ kind)
+        × IsReadIn (scanner_of text.now state.old) kind step.context state.old.there (Err refusal) }
+    ensures { Refuses before (scanner_of text.now state.old) (scanner_of text.now state.new) result }
 {
     match refusal {
         yaml_refusal_t::MEMORY => stop_t::MEMORY,
         yaml_refusal_t::OFFENCE(_) => {
-            let fault = yaml_lexeme_fault(refusal, kind, scanner.front, scanner.there);
-            keep_nearest(scanner, fault)
+            let fault = yaml_lexeme_fault(refusal, kind, state.front, state.there);
+            keep_nearest(text, state, fault)
         }
     }
 }
@@ -189,23 +200,25 @@ pub(crate) fn stop_in_lexeme(
 /// Stops after a lexeme that was read: near the reader's fault, or since a candidate is lost there.
 #[cold]
 pub(crate) fn stop_after(
-    scanner: &mut scanner_t,
+    text: &yaml_text_t,
+    state: &mut state_t,
     in_flow: bool,
     kind: yaml_lexeme_kind_t,
     allowed: bool,
 ) -> stop_t
     ghost before: { List Laid }
-    requires { (step : step_t) × (lexeme : yaml_lexeme_t) × StopsAfter before scanner.old step lexeme
+    requires { (step : step_t) × (lexeme : yaml_lexeme_t) × StopsAfter before
+        (scanner_of text.now state.old) step lexeme
         × (step.in_flow ≡ in_flow) × (step.kind ≡ kind) × (step.allowed ≡ allowed) }
-    ensures { Refuses before scanner.old scanner.new result }
+    ensures { Refuses before (scanner_of text.now state.old) (scanner_of text.now state.new) result }
 {
-    let there = scanner.there;
-    if scanner.near <= there.index {
-        return stop_near(scanner);
+    let there = state.there;
+    if state.near <= there.index {
+        return stop_near(text, state);
     }
-    let step = step_of(scanner, in_flow, kind, allowed);
-    match lost_at(root_after(scanner, step), scanner.limit, there) {
-        Some(held) => stop_without(scanner, held, there),
+    let step = step_of(state, in_flow, kind, allowed);
+    match lost_at(root_after(state, step), state.limit, there) {
+        Some(held) => stop_without(text, state, held, there),
         None => unreachable!(),
     }
 }

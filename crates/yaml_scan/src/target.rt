@@ -1,19 +1,21 @@
 //! Where the group of a step goes: into the queue, or straight to a sink if nothing of it has to wait.
-ghost use Rattle.std.specs.Prelude.{◌≡◌, ◌+◌, ◌<◌, ◌≤◌, ◌^◌, List, [], ◌∷◌, ◌++◌, ◌⊎◌, true, false, length};
+ghost use Rattle.std.specs.Prelude.{◌≡◌, ℕ, ◌+◌, ◌<◌, ◌≤◌, ◌^◌, List, [], ◌∷◌, ◌++◌, ◌⊎◌, true, false, length};
 ghost use Rattle.std.specs.Prelude.{MatchResult};
 ghost use Rattle.std.specs.Prelude.{if◌then◌else◌, OnErr, OnOk};
 ghost use Rattle.std.specs.VecDeque.{deque_capacity};
 ghost use Rattle.yaml_text.specs.Token.{Token, data_of, token_of};
+ghost use Rattle.yaml_text.specs.Text.{Text};
 ghost use Rattle.yaml_scan.specs.Sink.{said_len, texts_len};
 ghost use Rattle.yaml_scan.specs.Words.{HasWords};
 ghost use Rattle.yaml_scan.specs.declared.fault.stop_t.TheVariants.{SINK};
 ghost use Rattle.yaml_scan.specs.inside.Queue.{ends_at, leads, start_at};
 ghost use Rattle.yaml_scan.specs.Groups.Token.{InsertedKey};
 ghost use Rattle.yaml_scan.specs.inside.Handed.{Gives, IsHandedOn, group_tokens, keys_of, lone, starts_of, told_leads};
+ghost use Rattle.yaml_scan.specs.inside.Scanner.{scanner_of};
 
 use crate::fault::{stop_by_sink, stop_t, stopped};
 use crate::groups::{block_t, group_t, token_at};
-use crate::scanner::scanner_t;
+use crate::state::state_t;
 use std::alloc::{AllocError, Global};
 use yaml_text::{unnamed_yaml_token_t_data, yaml_mark_t, yaml_token_t};
 
@@ -28,6 +30,9 @@ pub trait yaml_token_sink_t {
     // It has taken no more than it has room for.
     ghost within: { Self → Type 0 };
 
+    // What is known if it says that so many more tokens, whose texts have so many bytes, find no room.
+    ghost lacks: { Self → ℕ → ℕ → Type 0 };
+
     /// Takes a token. `AllocError` if it found no memory; then nothing was taken.
     fn put(&mut self, token: yaml_token_t) -> Result<(), AllocError>
         requires { HasWords (token_of token).token_data }
@@ -41,8 +46,9 @@ pub trait yaml_token_sink_t {
 
     /// Whether so many more tokens find room, whose texts have so many bytes.
     fn has_room(&self, count: u128, texts: u128) -> bool
-        ensures { result ≡ true → within self.now → (tokens : List Token) (after : Self) → length tokens ≤ count
-            → texts_len tokens ≤ texts → took self.now tokens after → within after };
+        ensures room { result ≡ true → within self.now → (tokens : List Token) (after : Self) → length tokens ≤ count
+            → texts_len tokens ≤ texts → took self.now tokens after → within after }
+        ensures lack { result ≡ false → lacks self.now count texts };
 
     ghost took_none: { (s : Self) → took s [] s };
 
@@ -61,6 +67,8 @@ impl yaml_token_sink_t for no_sink_t {
     ghost may_refuse = { Unit {0} };
 
     ghost within = { λ s. Unit {0} };
+
+    ghost lacks = { λ s count texts. Unit {0} };
 
     fn put(&mut self, _token: yaml_token_t) -> Result<(), AllocError> {
         Ok(())
@@ -297,27 +305,28 @@ pub(crate) fn has_room_for_both<const DIRECT: bool, S: yaml_token_sink_t>(
 /// Hands on the group of a step: straight to the sink if it need not wait, and else into the queue, which has room.
 #[inline(always)]
 pub(crate) fn hand_on<const DIRECT: bool, S: yaml_token_sink_t>(
-    scanner: &mut scanner_t,
+    state: &mut state_t,
     sink: &mut S,
     waits: bool,
     group: group_t,
 ) -> Result<(), stop_t>
-    requires room { length scanner.old.layout.queue.groups.items < deque_capacity scanner.old.layout.queue.groups }
+    requires room { length state.old.layout.queue.groups.items < deque_capacity state.old.layout.queue.groups }
     requires words { HasWords (token_of group.token).token_data }
-    requires done { scanner.old.layout.queue.done + 1 < 2 ^ 64 }
-    requires taken { scanner.old.taken + length (group_tokens group) < 2 ^ 128 }
-    ensures { IsHandedOn DIRECT waits scanner.old scanner.new group (λ tokens. S.took sink.old tokens sink.new)
+    requires done { state.old.layout.queue.done + 1 < 2 ^ 64 }
+    requires taken { state.old.taken + length (group_tokens group) < 2 ^ 128 }
+    ensures { (text : Text) → IsHandedOn DIRECT waits (scanner_of text state.old) (scanner_of text state.new) group
+        (λ tokens. S.took sink.old tokens sink.new)
         S.may_refuse result }
 {
     if !DIRECT || waits {
-        scanner.layout.queue.groups.push_back_reserved(group);
+        state.layout.queue.groups.push_back_reserved(group);
         return Ok(());
     }
     let count = count_of(&group);
     match give_group(sink, group) {
         Ok(_) => {
-            scanner.layout.queue.done += 1;
-            scanner.taken += count;
+            state.layout.queue.done += 1;
+            state.taken += count;
             Ok(())
         }
         Err(stop) => Err(stopped(stop)),
@@ -328,28 +337,29 @@ pub(crate) fn hand_on<const DIRECT: bool, S: yaml_token_sink_t>(
 /// queue, which has room.
 #[inline(always)]
 pub(crate) fn hand_keyless<const DIRECT: bool, S: yaml_token_sink_t>(
-    scanner: &mut scanner_t,
+    state: &mut state_t,
     sink: &mut S,
     waits: bool,
     group: group_t,
 ) -> Result<(), stop_t>
     requires key { group.key ≡ false }
-    requires room { length scanner.old.layout.queue.groups.items < deque_capacity scanner.old.layout.queue.groups }
+    requires room { length state.old.layout.queue.groups.items < deque_capacity state.old.layout.queue.groups }
     requires words { HasWords (token_of group.token).token_data }
-    requires done { scanner.old.layout.queue.done + 1 < 2 ^ 64 }
-    requires taken { scanner.old.taken + length (group_tokens group) < 2 ^ 128 }
-    ensures { IsHandedOn DIRECT waits scanner.old scanner.new group (λ tokens. S.took sink.old tokens sink.new)
+    requires done { state.old.layout.queue.done + 1 < 2 ^ 64 }
+    requires taken { state.old.taken + length (group_tokens group) < 2 ^ 128 }
+    ensures { (text : Text) → IsHandedOn DIRECT waits (scanner_of text state.old) (scanner_of text state.new) group
+        (λ tokens. S.took sink.old tokens sink.new)
         S.may_refuse result }
 {
     if !DIRECT || waits {
-        scanner.layout.queue.groups.push_back_reserved(group);
+        state.layout.queue.groups.push_back_reserved(group);
         return Ok(());
     }
     let count = count_of(&group);
     match give_keyless(sink, group) {
         Ok(_) => {
-            scanner.layout.queue.done += 1;
-            scanner.taken += count;
+            state.layout.queue.done += 1;
+            state.taken += count;
             Ok(())
         }
         Err(stop) => Err(stopped(stop)),
@@ -360,20 +370,21 @@ pub(crate) fn hand_keyless<const DIRECT: bool, S: yaml_token_sink_t>(
 /// queue, which has room.
 #[inline(always)]
 pub(crate) fn hand_token<const DIRECT: bool, S: yaml_token_sink_t>(
-    scanner: &mut scanner_t,
+    state: &mut state_t,
     sink: &mut S,
     waits: bool,
     token: yaml_token_t,
 ) -> Result<(), stop_t>
-    requires room { length scanner.old.layout.queue.groups.items < deque_capacity scanner.old.layout.queue.groups }
+    requires room { length state.old.layout.queue.groups.items < deque_capacity state.old.layout.queue.groups }
     requires words { HasWords (token_of token).token_data }
-    requires done { scanner.old.layout.queue.done + 1 < 2 ^ 64 }
-    requires taken { scanner.old.taken + length (group_tokens (lone token)) < 2 ^ 128 }
-    ensures { IsHandedOn DIRECT waits scanner.old scanner.new (lone token) (λ tokens. S.took sink.old tokens sink.new)
+    requires done { state.old.layout.queue.done + 1 < 2 ^ 64 }
+    requires taken { state.old.taken + length (group_tokens (lone token)) < 2 ^ 128 }
+    ensures { (text : Text) → IsHandedOn DIRECT waits (scanner_of text state.old) (scanner_of text state.new)
+        (lone token) (λ tokens. S.took sink.old tokens sink.new)
         S.may_refuse result }
 {
     if !DIRECT || waits {
-        scanner.layout.queue.groups.push_back_reserved(group_t {
+        state.layout.queue.groups.push_back_reserved(group_t {
             ends: 0,
             opens: block_t::NONE,
             key: false,
@@ -383,8 +394,8 @@ pub(crate) fn hand_token<const DIRECT: bool, S: yaml_token_sink_t>(
     }
     match give(sink, token) {
         Ok(_) => {
-            scanner.layout.queue.done += 1;
-            scanner.taken += 1;
+            state.layout.queue.done += 1;
+            state.taken += 1;
             Ok(())
         }
         Err(stop) => Err(stopped(stop)),

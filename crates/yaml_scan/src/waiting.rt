@@ -1,7 +1,9 @@
 //! Whether a lexeme of a flow collection has to wait in the queue, with what comes right after it.
 ghost use Rattle.std.specs.Prelude.{◌≡◌, ◌+◌, ◌<◌, ◌^◌, ◌&&◌, None, Some, true, false, length, nat_eq, not, slice_get};
 ghost use Rattle.std.specs.VecDeque.{deque_capacity};
+ghost use Rattle.yaml_text.specs.Text.{Text};
 ghost use Rattle.yaml_scan.specs.inside.Queue.{begins_with_end, pending};
+ghost use Rattle.yaml_scan.specs.inside.Scanner.{scanner_of};
 ghost use Rattle.yaml_scan.specs.inside.Scanning.{Waits};
 ghost use Rattle.yaml_scan.specs.inside.Slots.{Held, is_live};
 
@@ -10,46 +12,46 @@ use crate::groups::has_ends;
 use crate::keys::is_still_live;
 use crate::kind::is_candidate;
 use crate::met::step_t;
-use crate::scanner::scanner_t;
 use crate::slots::slots_t;
+use crate::state::state_t;
 use yaml_text::yaml_mark_t;
 
 /// Whether the head of the queue is the token of the lowest candidate.
 #[inline(always)]
-pub(crate) fn is_awaited(scanner: &scanner_t) -> bool
-    requires { scanner.now.layout.queue.done + 1 < 2 ^ 64 }
-    ensures { result ≡ (nat_eq scanner.now.slots.awaited (scanner.now.layout.queue.done + 1)
-        && not (begins_with_end (pending scanner.now.layout.queue.early scanner.now.layout.queue.front
-        scanner.now.layout.queue.groups.items))) }
+pub(crate) fn is_awaited(state: &state_t) -> bool
+    requires { state.now.layout.queue.done + 1 < 2 ^ 64 }
+    ensures { result ≡ (nat_eq state.now.slots.awaited (state.now.layout.queue.done + 1)
+        && not (begins_with_end (pending state.now.layout.queue.early state.now.layout.queue.front
+        state.now.layout.queue.groups.items))) }
 {
-    scanner.slots.awaited == scanner.layout.queue.done + 1 && !has_ends(&scanner.layout.queue)
+    state.slots.awaited == state.layout.queue.done + 1 && !has_ends(&state.layout.queue)
 }
 
 /// Whether the head of the queue is the token of the lowest candidate, and there is room for two more groups.
 #[inline(always)]
-fn is_awaited_with_room(scanner: &scanner_t) -> bool
-    requires { scanner.now.layout.queue.done + 1 < 2 ^ 64 }
-    ensures awaited { result ≡ true → scanner.now.slots.awaited ≡ scanner.now.layout.queue.done + 1 }
-    ensures ends { result ≡ true → begins_with_end (pending scanner.now.layout.queue.early
-        scanner.now.layout.queue.front scanner.now.layout.queue.groups.items) ≡ false }
-    ensures room { result ≡ true → length scanner.now.layout.queue.groups.items + 1
-        < deque_capacity scanner.now.layout.queue.groups }
+fn is_awaited_with_room(state: &state_t) -> bool
+    requires { state.now.layout.queue.done + 1 < 2 ^ 64 }
+    ensures awaited { result ≡ true → state.now.slots.awaited ≡ state.now.layout.queue.done + 1 }
+    ensures ends { result ≡ true → begins_with_end (pending state.now.layout.queue.early
+        state.now.layout.queue.front state.now.layout.queue.groups.items) ≡ false }
+    ensures room { result ≡ true → length state.now.layout.queue.groups.items + 1
+        < deque_capacity state.now.layout.queue.groups }
 {
-    let groups = &scanner.layout.queue.groups;
-    groups.len() < groups.capacity().saturating_sub(1) && is_awaited(scanner)
+    let groups = &state.layout.queue.groups;
+    groups.len() < groups.capacity().saturating_sub(1) && is_awaited(state)
 }
 
 /// Whether the slot of its depth is known after the lexeme of a step, which was read up to a mark: if a key is allowed,
 /// the lexeme is the candidate, and live, and if not, there is none.
 #[inline(always)]
-fn has_known_slot(scanner: &scanner_t, step: step_t, reach: yaml_mark_t) -> bool
-    ensures key { result ≡ true → step.allowed ≡ true → is_live scanner.now.limit reach step.new ≡ true }
-    ensures none { result ≡ true → step.allowed ≡ false → scanner.now.slots.top ≡ None }
+fn has_known_slot(state: &state_t, step: step_t, reach: yaml_mark_t) -> bool
+    ensures key { result ≡ true → step.allowed ≡ true → is_live state.now.limit reach step.new ≡ true }
+    ensures none { result ≡ true → step.allowed ≡ false → state.now.slots.top ≡ None }
 {
     if step.allowed {
-        is_still_live(scanner.limit, reach, step.new)
+        is_still_live(state.limit, reach, step.new)
     } else {
-        scanner.slots.top.is_none()
+        state.slots.top.is_none()
     }
 }
 
@@ -71,14 +73,14 @@ pub(crate) fn is_outer_live(slots: &slots_t, limit: u64, mark: yaml_mark_t) -> b
 /// Whether the lexeme of a step, which was read up to a mark, is in flow and has to wait until an earlier candidate is
 /// decided. There is room for it and for one group more, and the slot of its depth is known.
 #[inline(always)]
-pub(crate) fn waits(scanner: &scanner_t, step: step_t, reach: yaml_mark_t) -> bool
-    requires { scanner.now.layout.queue.done + 1 < 2 ^ 64 }
-    ensures { result ≡ true → Waits scanner.now step reach }
+pub(crate) fn waits(state: &state_t, step: step_t, reach: yaml_mark_t) -> bool
+    requires { state.now.layout.queue.done + 1 < 2 ^ 64 }
+    ensures { (text : Text) → result ≡ true → Waits (scanner_of text state.now) step reach }
 {
-    scanner.slots.awaited > 0
+    state.slots.awaited > 0
         && step.in_flow
         && is_candidate(step.kind)
         && !is_flow_start(step.kind)
-        && is_awaited_with_room(scanner)
-        && has_known_slot(scanner, step, reach)
+        && is_awaited_with_room(state)
+        && has_known_slot(state, step, reach)
 }

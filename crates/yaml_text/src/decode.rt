@@ -83,6 +83,14 @@ pub(crate) fn find_encoding(setting: yaml_encoding_t, input: &[u8]) -> (yaml_enc
     }
 }
 
+/// The encoding of an input: the one that is set, or else that of the byte order mark, or else UTF-8. Nothing is
+/// decoded.
+pub fn yaml_encoding_of(setting: yaml_encoding_t, input: &[u8]) -> yaml_encoding_t
+    ensures { result ≡ encoding_of setting input.now }
+{
+    find_encoding(setting, input).0
+}
+
 /// The fault of an offence, `before` bytes into the input.
 fn refusal(before: usize, offence: Option<offence_t>) -> Option<yaml_fault_t>
     requires { IfSome offence (λ o. before + o.offset < 2 ^ 64) }

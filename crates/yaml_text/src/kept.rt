@@ -1,5 +1,5 @@
 //! A text whose input was let go, and taken up again.
-ghost use Rattle.std.specs.Prelude.{◌≡◌};
+ghost use Rattle.std.specs.Prelude.{◌≡◌, IfSome, IsNone, IsSome};
 ghost use Rattle.yaml_text.specs.Decode.{front};
 ghost use Rattle.yaml_text.specs.Kept.{IsKeptOf};
 ghost use Rattle.yaml_text.specs.Text.{Text};
@@ -56,6 +56,19 @@ impl yaml_kept_text_t {
             own: Some(bytes),
             start: 0,
             len: 0,
+        }
+    }
+
+    /// The text again, for the same input, if it borrows a part of that. Returns `None` if it has bytes of its own.
+    #[inline(always)]
+    pub fn borrowed<'a>(&self, input: &'a [u8]) -> Option<yaml_text_t<'a>>
+        requires { (t : Text) × IsKeptOf t input.now self.now }
+        ensures again { IfSome result (λ text. (t : Text) → IsKeptOf t input.now self.now → text ≡ t) }
+        ensures own { IsNone result → IsSome self.now.own }
+    {
+        match self.own {
+            Some(_) => None,
+            None => Some(borrowed_text(&input[self.start..self.start + self.len])),
         }
     }
 

@@ -27,7 +27,7 @@ pub use classes::{
     AS_DIGIT, AS_HEX, IS_ALPHA, IS_ASCII, IS_BLANK, IS_BLANKZ, IS_BOM, IS_BREAK, IS_BREAKZ,
     IS_CRLF, IS_DIGIT, IS_HEX, IS_PRINTABLE, IS_SPACE, IS_TAB, IS_Z, WIDTH,
 };
-pub use decode::{yaml_decode, yaml_decode_front};
+pub use decode::{yaml_decode, yaml_decode_front, yaml_encoding_of};
 pub use fault::yaml_fault_t;
 pub use kept::yaml_kept_text_t;
 pub use mark::{yaml_index_from_end, yaml_is_place, yaml_mark_at};

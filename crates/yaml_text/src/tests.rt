@@ -111,6 +111,20 @@ fn decode_front(rt: HostRuntime) -> Result<(), Fail> {
     Ok(())
 }
 
+/// The mark decides only if no encoding is set, and only if it is whole.
+#[test]
+fn encodings_of_inputs(rt: HostRuntime) -> Result<(), Fail> {
+    assert_eq!(rt; yaml_encoding_of(ANY, b""), UTF8);
+    assert_eq!(rt; yaml_encoding_of(ANY, b"\xFE\xFF"), UTF16BE);
+    assert_eq!(rt; yaml_encoding_of(ANY, b"\xFE"), UTF8);
+    assert_eq!(rt; yaml_encoding_of(ANY, b"a\xFE\xFF"), UTF8);
+    assert_eq!(rt; yaml_encoding_of(UTF8, b"\xFE\xFF"), UTF8);
+    assert_eq!(rt; yaml_encoding_of(UTF16BE, b"\xFF\xFE"), UTF16BE);
+    let little = yaml_encoding_of(ANY, b"\xFF\xFEa");
+    assert_eq!(rt; little, yaml_encoding_t::YAML_UTF16LE_ENCODING);
+    Ok(())
+}
+
 /// Fronts of UTF-16: after a byte order mark half of a pair is left, and in a set order a low surrogate.
 #[test]
 fn decode_front_of_utf16(rt: HostRuntime) -> Result<(), Fail> {

@@ -79,6 +79,8 @@ impl yaml_token_sink_t for token_lines_t {
 
     ghost within = { λ s. Unit {0} };
 
+    ghost lacks = { λ s count texts. Unit {0} };
+
     fn put(&mut self, token: yaml_token_t) -> Result<(), AllocError> {
         self.len = put_line(&mut self.bytes, self.len, &mut self.kept, &token)?;
         Ok(())

@@ -14,6 +14,7 @@ const HELP: &str = "Lists the tokens of a file, one a line.
       --version  print the version
 
 The exit status is 0; 1 if there is a fault; 2 for wrong words; 3 if reading or writing fails.
+A standard input that is closed is an empty one: Rust opens /dev/null for it.
 ";
 
 /// What the words ask for.

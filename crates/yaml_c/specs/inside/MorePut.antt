@@ -6,12 +6,20 @@ use Rattle.yaml_c.specs.inside.Sink.{ArePut, IsBeside, IsPut, IsWithin}
 use Rattle.yaml_c.specs.declared.sink.token_rooms_t.{token_rooms_t}
 
 pub none_put : (a : token_rooms_t) → IsBeside a a
-none_put a = record { tokens = refl; texts = refl; spelled = refl; token_count = refl; text_len = refl }
+none_put a = record {
+  same_spare = refl;
+  tokens = refl;
+  texts = refl;
+  spelled = refl;
+  token_count = refl;
+  text_len = refl;
+}
 
 put_beside : (a b c : token_rooms_t) (t : Token) → IsBeside a b → IsPut b t c → IsPut a t c
 put_beside a b c t e p = record {
   same_tokens = rw (← e.tokens) p.same_tokens;
   same_texts = rw (← e.texts) p.same_texts;
+  same_spare = p.same_spare ∙ e.same_spare;
   spelled = p.spelled ∙ e.spelled;
   token_count = rw (← e.token_count) p.token_count;
   text_len = rw (← e.text_len) p.text_len;
@@ -21,6 +29,7 @@ put_beside a b c t e p = record {
 
 more_beside : (a b c : token_rooms_t) (ys : List Token) → IsBeside a b → ArePut b ys c → ArePut a ys c
 more_beside a b c [] e f = record {
+  same_spare = f.same_spare ∙ e.same_spare;
   tokens = f.tokens ∙ e.tokens;
   texts = f.texts ∙ e.texts;
   spelled = f.spelled ∙ e.spelled;

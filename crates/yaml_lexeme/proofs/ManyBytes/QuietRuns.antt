@@ -52,7 +52,7 @@ low_or_wide class = inr (record {
   takes = λ c l h. grind (arith, nat_tests);
 })
 
-next_range : (c : ℕ) → (128 ≤ next c) × (next c < 192)
+pub next_range : (c : ℕ) → (128 ≤ next c) × (next c < 192)
 next_range c = (omega arith, omega arith)
 
 abbrev OverChar : (ℕ → Bool) → ℕ → List ℕ → Type 0
@@ -104,7 +104,7 @@ quiet_char class c more h = elim (low_or_wide class) [ inl low ↦ quiet_low (is
 
 -- ---- what a quiet lead says of its character
 
-abbrev Passes : class_t → ℕ → Type 0
+abbrev pub Passes : class_t → ℕ → Type 0
 Passes class c = (class_test class c ≡ true) × (is_break c ≡ false)
 
 passes_ascii : (class : class_t) (c : ℕ) → 0 < c → c < 128 → is_quiet class c ≡ true → Passes class c
@@ -117,7 +117,7 @@ no_break2 c l h e = grind (arith, nat_tests)
 no_break3 : (c : ℕ) → 2048 ≤ c → c < 65536 → may_break (224 + c / 4096) ≡ false → is_break c ≡ false
 no_break3 c l h e = grind (arith, nat_tests)
 
-no_break4 : (c : ℕ) → 65536 ≤ c → is_break c ≡ false
+pub no_break4 : (c : ℕ) → 65536 ≤ c → is_break c ≡ false
 no_break4 c l = grind (arith, nat_tests)
 
 no_break : (c : ℕ) → 128 ≤ c → may_break (get_or (encode c) 0 0) ≡ false → is_break c ≡ false
@@ -157,7 +157,7 @@ after_in_line m c next h = rw h refl
 width_is : (c : ℕ) → length (encode c) ≡ len_utf8 c
 width_is c = length-encode c
 
-nothing_over : (class : class_t) (m : yaml_mark_t) (cs : List ℕ) (n : ℕ) → n ≡ 0 → Over class m cs n
+pub nothing_over : (class : class_t) (m : yaml_mark_t) (cs : List ℕ) (n : ℕ) → n ≡ 0 → Over class m cs n
 nothing_over class m cs n e = record {
   front = [];
   left = cs;
@@ -167,7 +167,7 @@ nothing_over class m cs n e = record {
   goes = omega arith;
 }
 
-one_over : (class : class_t) (m : yaml_mark_t) (c : ℕ) (cs : List ℕ) (n : ℕ) → Passes class c → Over class (along m (len_utf8 c) 1) cs n → Over class m (c ∷ cs) (length (encode c) + n)
+pub one_over : (class : class_t) (m : yaml_mark_t) (c : ℕ) (cs : List ℕ) (n : ℕ) → Passes class c → Over class (along m (len_utf8 c) 1) cs n → Over class m (c ∷ cs) (length (encode c) + n)
 one_over class m c cs n good o =
     let k : length (c ∷ o.front) ≡ suc (length o.front) = omega arith in
     let i : m.index + len_utf8 c + n ≡ m.index + (length (encode c) + n) = omega (arith, width_is c) in
@@ -219,7 +219,7 @@ count1 b h = grind (arith, nat_tests)
 count_lead : (b : ℕ) → 192 ≤ b → begins b ≡ true
 count_lead b h = grind (arith, nat_tests)
 
-count_next : (c : ℕ) → begins (next c) ≡ false
+pub count_next : (c : ℕ) → begins (next c) ≡ false
 count_next c = let r = next_range c in grind (arith, nat_tests)
 
 past_byte : (b : ℕ) (xs : List ℕ) → begins b ≡ false → count_by begins (b ∷ xs) ≡ count_by begins xs
@@ -229,7 +229,7 @@ past_byte b xs h =
     let f : n ≡ 0 = rw h refl in
     omega (arith, e, f)
 
-one_byte : (b : ℕ) (xs : List ℕ) → begins b ≡ true → count_by begins (b ∷ xs) ≡ 1 + count_by begins xs
+pub one_byte : (b : ℕ) (xs : List ℕ) → begins b ≡ true → count_by begins (b ∷ xs) ≡ 1 + count_by begins xs
 one_byte b xs h = sum_by-cons (λ x. cond (begins x) 1 0) b xs ∙ ap (λ (t : Bool). cond t 1 0 + count_by begins xs) h
 
 count_one : (c : ℕ) (more : List ℕ) → count_by begins (encode c ++ more) ≡ 1 + count_by begins more

@@ -19,8 +19,9 @@ use Rattle.yaml_lexeme.specs.declared.runs.class_t.{class_t}
 use Rattle.yaml_lexeme.specs.declared.runs.class_t.TheVariants.{BLANK_OR_BREAK}
 use Rattle.yaml_lexeme.specs.Place.{Place, skip}
 use Rattle.yaml_lexeme.specs.inside.Moves.{skip_from, mark_after}
-use Rattle.yaml_lexeme.specs.inside.Runs.{class_test, is_line, is_quiet, begins, trim, Stands}
-use Rattle.yaml_lexeme.proofs.ManyBytes.QuietRuns.{along, Over, over, count_chars}
+use Rattle.yaml_lexeme.specs.inside.Runs.{class_test, is_line, begins, trim, Clear, Stands}
+use Rattle.yaml_lexeme.proofs.ManyBytes.QuietRuns.{along, Over, count_chars}
+use Rattle.yaml_lexeme.proofs.ManyBytes.ClearRuns.{over_bytes}
 use Rattle.yaml_lexeme.proofs.ManyBytes.TrimmedLists.{trimmed, trim_bytes}
 
 -- the characters of a class of a line are no breaks
@@ -65,12 +66,12 @@ pub record Back (class : class_t) (m : yaml_mark_t) (bytes : List ℕ) (p : Plac
   pub place : let q : Place = record { mark = record { index = m.index + kept; line = m.line; column = m.column + (k - (n - kept)) }; rest = chars (drop kept bytes) } in Stands (class_test class) p q
 
 back_from : (class : class_t) (m : yaml_mark_t) (bytes : List ℕ) (n k kept : ℕ) → is_line class ≡ true → IsText bytes → let p : Place = record { mark = m; rest = chars bytes } in
-    n ≡ prefix_len (is_quiet class) bytes → k ≡ count_by begins (take n bytes) → kept ≡ length (trim (take n bytes)) → Back class m bytes p n k kept
+    Clear class bytes n → k ≡ count_by begins (take n bytes) → kept ≡ length (trim (take n bytes)) → Back class m bytes p n k kept
 unfolding skip
-back_from class m bytes n k kept line t n-is k-is kept-is =
+back_from class m bytes n k kept line t clear k-is kept-is =
     let cs = chars bytes in
     let test = class_test class in
-    let o : Over class m cs n = subst (λ x. Over class m cs x) (ap (prefix_len (is_quiet class)) t.spelled ∙ sym n-is) (over class m cs t.each) in
+    let o : Over class m cs n = over_bytes class m bytes n line t clear in
     let whole = o.front in
     let j = length whole in
     let tk : take n bytes ≡ utf8 whole = ap (λ (x : List ℕ). take n x) (sym t.spelled ∙ ap utf8 o.parts ∙ encodes-append whole o.left) ∙ take_at (utf8 whole) (utf8 o.left) n o.bytes in
@@ -106,5 +107,5 @@ back_from class m bytes n k kept line t n-is k-is kept-is =
     }
 
 pub backs : (class : class_t) (m : yaml_mark_t) (bytes : List ℕ) (p : Place) (n k kept : ℕ) → is_line class ≡ true → IsText bytes → (let q : Place = record { mark = m; rest = chars bytes } in q ≡ p)
-    → n ≡ prefix_len (is_quiet class) bytes → k ≡ count_by begins (take n bytes) → kept ≡ length (trim (take n bytes)) → Back class m bytes p n k kept
-backs class m bytes p n k kept line t view n-is k-is kept-is = subst (λ (x : Place). Back class m bytes x n k kept) view (back_from class m bytes n k kept line t n-is k-is kept-is)
+    → Clear class bytes n → k ≡ count_by begins (take n bytes) → kept ≡ length (trim (take n bytes)) → Back class m bytes p n k kept
+backs class m bytes p n k kept line t view clear k-is kept-is = subst (λ (x : Place). Back class m bytes x n k kept) view (back_from class m bytes n k kept line t clear k-is kept-is)

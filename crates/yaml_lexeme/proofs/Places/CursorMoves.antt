@@ -16,11 +16,12 @@ use Rattle.yaml_text.specs.Classes.{is_break}
 use Rattle.yaml_text.proofs.Decodings.DecodeFronts.{chars-utf8, IsText-utf8}
 use Rattle.yaml_text.proofs.Marks.MarkMoves.{AreChars-parts}
 use Rattle.yaml_text.proofs.Characters.ClassTables.{Leads, leads}
-use Rattle.yaml_lexeme.specs.Place.{first, Place, place_at, skip, after_run, run, run_len}
+use Rattle.yaml_lexeme.specs.Place.{first, peek, Place, place_at, skip, after_run, run, run_len}
 use Rattle.yaml_lexeme.specs.inside.Moves.{ends_line, skip_from, mark_after}
 use Rattle.yaml_lexeme.specs.Counted.{IsMarkOf}
 use Rattle.yaml_lexeme.specs.declared.runs.class_t.{class_t}
-use Rattle.yaml_lexeme.specs.inside.Runs.{is_quiet, class_test, begins}
+use Rattle.yaml_lexeme.specs.inside.Runs.{is_quiet, is_line, class_test, begins, Clear}
+use Rattle.yaml_lexeme.proofs.ManyBytes.ClearRuns.{over_bytes}
 use Rattle.yaml_lexeme.proofs.Places.PlaceMoves.{skip_skip, moved, rest_skip, is_there}
 use Rattle.yaml_lexeme.proofs.Places.FirstCharacters.{head, ascii_head, past_ascii, some_bytes}
 use Rattle.yaml_lexeme.proofs.ManyBytes.QuietRuns.{Over, over, along, count_chars, spaces_bytes, over_spaces}
@@ -38,10 +39,17 @@ skip_is : (n : ℕ) (m : yaml_mark_t) (cs : List ℕ) → let p : Place = record
 unfolding skip
 skip_is n m cs = refl
 
-pub quiet_moves : (class : class_t) (m : yaml_mark_t) (bytes : List ℕ) (n k : ℕ) → IsText bytes → n ≡ prefix_len (is_quiet class) bytes → k ≡ count_by begins (take n bytes) → QuietMove class m bytes n k
-quiet_moves class m bytes n k t n-is k-is =
+over_quiet : (class : class_t) (m : yaml_mark_t) (bytes : List ℕ) (n : ℕ) → IsText bytes → (is_line class ≡ true → Clear class bytes n) → (is_line class ≡ false → n ≡ prefix_len (is_quiet class) bytes) → Over class m (chars bytes) n
+over_quiet class m bytes n t line narrow =
+    elim (cases_Bool (is_line class)) [
+      | inl is ↦ over_bytes class m bytes n is t (line is)
+      | inr other ↦ subst (λ x. Over class m (chars bytes) x) (ap (prefix_len (is_quiet class)) t.spelled ∙ sym (narrow other)) (over class m (chars bytes) t.each)
+    ]
+
+pub quiet_moves : (class : class_t) (m : yaml_mark_t) (bytes : List ℕ) (n k : ℕ) → IsText bytes → (is_line class ≡ true → Clear class bytes n) → (is_line class ≡ false → n ≡ prefix_len (is_quiet class) bytes) → k ≡ count_by begins (take n bytes) → QuietMove class m bytes n k
+quiet_moves class m bytes n k t line narrow k-is =
     let cs = chars bytes in
-    let o : Over class m cs n = subst (λ x. Over class m cs x) (ap (prefix_len (is_quiet class)) t.spelled ∙ sym n-is) (over class m cs t.each) in
+    let o : Over class m cs n = over_quiet class m bytes n t line narrow in
     let each = AreChars-parts o.front o.left (subst AreChars o.parts t.each) in
     let b : bytes ≡ utf8 o.front ++ utf8 o.left = sym t.spelled ∙ ap utf8 o.parts ∙ encodes-append o.front o.left in
     let tk : take n bytes ≡ utf8 o.front = ap (λ (x : List ℕ). take n x) b ∙ take_at (utf8 o.front) (utf8 o.left) n o.bytes in
@@ -231,6 +239,25 @@ pub feed_moves : (m : yaml_mark_t) (bytes : List ℕ) (p : Place) → IsText byt
 feed_moves m bytes p t view feed =
     let b = ascii_byte m bytes p t view (omega arith) (omega arith) in
     (b, line_feed_moves m bytes t b.some (b.same ∙ feed))
+
+return_mark : (m : yaml_mark_t) (c next : ℕ) → c ≡ 13 → next ≡ 10 → along m 1 1 ≡ mark_after m c next
+return_mark m c next e n = rw (e, n) refl
+
+-- after a carriage return that is here, before a line feed
+pub return_moves : (m : yaml_mark_t) (bytes : List ℕ) (p : Place) → IsText bytes → (let q : Place = record { mark = m; rest = chars bytes } in q ≡ p) → first p ≡ 13 → peek p 1 ≡ 10 → AsciiByte bytes (first p) × AsciiMove m bytes
+return_moves m bytes p t view e n =
+    let b = ascii_byte m bytes p t view (omega arith) (omega arith) in
+    let h = head bytes t b.some in
+    let k = past_ascii bytes t b.some (omega (arith, b.same)) in
+    let q : Place = record { mark = m; rest = chars bytes } in
+    let here : get_or (chars bytes) 0 0 ≡ 13 = ap (λ (x : Place). first x) view ∙ e in
+    let next : get_or (chars bytes) 1 0 ≡ 10 = ap (λ (x : Place). peek x 1) view ∙ n in (
+      b,
+      record {
+        text = k.text;
+        place = moved q m (along m 1 1) (chars bytes) (chars (drop 1 bytes)) (get_or q.rest 1 0) refl h.some refl (return_mark m (get_or (chars bytes) 0 0) (get_or q.rest 1 0) here next) k.rest;
+      },
+    )
 
 -- a text's front is a place of it
 pub at_front : (cs : List ℕ) → IsMarkOf cs (record { index = 0; line = 0; column = 0 }) 0

@@ -8,7 +8,7 @@ use Rattle.yaml_text.specs.declared.types.yaml_mark_t.{yaml_mark_t}
 use Rattle.yaml_lexeme.specs.declared.runs.class_t.{class_t}
 use Rattle.yaml_lexeme.specs.declared.runs.class_t.TheVariants.{BLANK, GAP_BLANK, SPACE, BLANK_OR_BREAK, ALPHA, URI, IN_LINE, DOUBLE, SINGLE, PLAIN, FLOW}
 use Rattle.yaml_lexeme.specs.Place.{Place, peek, first, skip, after_run, break_len}
-use Rattle.yaml_lexeme.specs.inside.Moves.{mark_after, skip_from}
+use Rattle.yaml_lexeme.specs.inside.Moves.{mark_after, skip_from, is_feed}
 use Rattle.yaml_lexeme.specs.inside.Runs.{class_test}
 use Rattle.yaml_lexeme.specs.Classes.{is_white, is_in_line}
 use Rattle.yaml_text.specs.Classes.{is_blank, is_break, is_z}
@@ -148,3 +148,18 @@ solid c a b = rw (a, b) refl
 
 pub is_break_len : (p : Place) → is_break (first p) ≡ true → 0 < break_len p
 is_break_len p h = grind (arith, nat_tests)
+
+pub feed_break : (c next : ℕ) → is_feed c next ≡ true → is_break c ≡ true
+feed_break c next h = grind (arith, nat_tests)
+
+-- a line feed and spaces
+pub feed_and_spaces : (p q r s : Place) → first p ≡ 10 → q ≡ p → r ≡ skip 1 q → s ≡ after_run (class_test SPACE) r → s ≡ after_run (class_test SPACE) (skip (break_len p) p)
+feed_and_spaces p q r s e a b d =
+    let one : break_len p ≡ 1 = rw e refl in
+    d ∙ ap (after_run (class_test SPACE)) (b ∙ ap (skip 1) a ∙ ap (λ k. skip k p) (sym one))
+
+-- a carriage return, a line feed and spaces
+pub return_and_spaces : (p q r s : Place) → first p ≡ 13 → peek p 1 ≡ 10 → q ≡ skip 1 p → r ≡ skip 1 q → s ≡ after_run (class_test SPACE) r → s ≡ after_run (class_test SPACE) (skip (break_len p) p)
+return_and_spaces p q r s e n a b d =
+    let two : break_len p ≡ 2 = rw (e, n) refl in
+    d ∙ ap (after_run (class_test SPACE)) (b ∙ ap (skip 1) a ∙ skip_skip 1 1 p ∙ ap (λ k. skip k p) (sym two))

@@ -1,8 +1,8 @@
 -- Literal and folded scalars are read a space and a line at a time.
-use Rattle.std.proofs.Common.{◌≡◌, ℕ, ◌<◌, ◌≤◌, max, Bool, true, false, cond, not, ◌&&◌, ◌||◌, nat_lt, if◌then◌else◌, List, [], ◌∷◌, ◌++◌, length, slice_index, map, Option, Some, None, Result, Ok, Err, refl, sym, ap, subst, ◌∙◌, arith, append_assoc, lt-ltb, length-append}
+use Rattle.std.proofs.Common.{◌≡◌, ℕ, ◌+◌, ◌<◌, ◌≤◌, max, Bool, true, false, cond, not, ◌&&◌, ◌||◌, nat_lt, if◌then◌else◌, List, [], ◌∷◌, ◌++◌, length, replicate, slice_index, map, Option, Some, None, Result, Ok, Err, refl, sym, ap, subst, ◌∙◌, arith, append_assoc, lt-ltb, length-append}
 use Rattle.std.proofs.lemmas.Str.{encode_ascii, encodes-append}
 use Rattle.std.proofs.lemmas.Bool.Decides.{nat_tests}
-use Rattle.std.proofs.lemmas.List.{append-nil}
+use Rattle.std.proofs.lemmas.List.{append-nil, replicate_more}
 use Rattle.std.specs.List.{fold as fold_list}
 use Rattle.std.specs.Char.{encode_utf8}
 use Rattle.yaml_text.specs.declared.types.yaml_mark_t.{yaml_mark_t}
@@ -27,7 +27,7 @@ use Rattle.yaml_lexeme.specs.Fold.{written, or_space}
 use Rattle.yaml_lexeme.specs.inside.Gives.{Refuses}
 use Rattle.yaml_lexeme.specs.Place.{Place, first, skip, run, after_run, break_len}
 use Rattle.yaml_lexeme.specs.Reading.{Offence, Found, Read, found, Part, part, refuse, over, many, ◌>>=◌}
-use Rattle.yaml_lexeme.specs.inside.Tails.{TakesBlanks, TakesLine, Keeps, between_tail, chomped_tail}
+use Rattle.yaml_lexeme.specs.inside.Tails.{breaks_in, TakesBlanks, TakesLine, Keeps, between_tail, chomped_tail}
 use Rattle.yaml_text.specs.Chars.{utf8}
 use Rattle.yaml_text.specs.Classes.{is_blank}
 use Rattle.yaml_lexeme.specs.declared.block.tail_t.{tail_t}
@@ -42,6 +42,14 @@ unfolding after_line
 at_feed p h =
     let none : is_blank (first p) ≡ false = rw h refl in
     rw (after_none is_blank p none, h, h) refl
+
+-- a line feed is counted, if no other break came
+pub feed_counted : (n : ℕ) (others : List ℕ) → length others ≡ 0 → replicate (n + 1) 0x0A ++ others ≡ (replicate n 0x0A ++ others) ++ encode_utf8 0x0A
+feed_counted n [] h =
+    append-nil (replicate (n + 1) 0x0A) ∙ sym (replicate_more n 0x0A)
+    ∙ ap (λ (x : List ℕ). x ++ 0x0A ∷ []) (sym (append-nil (replicate n 0x0A)))
+    ∙ ap (λ (x : List ℕ). (replicate n 0x0A ++ []) ++ x) (sym (encode_ascii 0x0A (omega arith)))
+feed_counted n (x ∷ xs) h = absurd (omega arith)
 
 -- the place after indentation
 abbrev pub indent_end : Option ℕ → Place → Place
@@ -197,9 +205,9 @@ first_blank true p h = ap (λ (cs : List ℕ). is_blank (slice_index cs 0)) (run
 first_blank false p h = ap (λ (cs : List ℕ). is_blank (slice_index cs 0)) (run_none is_in_line p h) ∙ sym (no_blank (first p) h)
 
 pub line_taken : (indent : ℕ) (p q : Place) (old new : List ℕ) (tail : tail_t) (column : ℕ) → tail.lead ≡ break_at (after_run is_in_line p) → tail.indented ≡ is_blank (first p) → new ≡ old ++ utf8 (run is_in_line p)
-    → TakesBlanks (Ok column) [] tail.empties.items tail.end q (blank_lines (Some indent) (line_end p)) → TakesLine (Ok tt) old new tail q (line_at indent p)
+    → TakesBlanks (Ok column) [] (breaks_in tail.empties) tail.end q (blank_lines (Some indent) (line_end p)) → TakesLine (Ok tt) old new tail q (line_at indent p)
 line_taken indent p q old new tail column l i v h =
-    let (b, read, wide, breaks, end) = blanks_from column tail.end [] tail.empties.items q (blank_lines (Some indent) (line_end p)) h in
+    let (b, read, wide, breaks, end) = blanks_from column tail.end [] (breaks_in tail.empties) q (blank_lines (Some indent) (line_end p)) h in
     let whole : line_at indent p ≡ found (record { text = run is_in_line p; break = break_at (after_run is_in_line p); empties = b.breaks; end = b.end }) q = line_is indent p ∙ ap (after_text p) read in
     rw whole (record { lead = l; empties = breaks; indented = i ∙ sym (first_blank (is_in_line (first p)) p refl); end = end }, v, refl)
 
@@ -354,10 +362,10 @@ leading_refused (errors.OFFENCE problem) folded level p q header a b e f h =
     block_is folded level p ∙ ap (after_header folded level) e ∙ ap (after_start folded level header) f ∙ ap (after_leading folded level header) h
 
 pub blocks_begin : (folded : Bool) (level : Option ℕ) (p : Place) (header : header_t) (a b q : Place) (column indent : ℕ) (tail : tail_t) → header_at (skip 1 p) ≡ found header a → after_line a ≡ Ok b
-    → TakesBlanks (Ok column) [] tail.empties.items tail.end q (blank_lines (set_indent level header.digit) b)
+    → TakesBlanks (Ok column) [] (breaks_in tail.empties) tail.end q (blank_lines (set_indent level header.digit) b)
     → tail.lead ≡ None → tail.indented ≡ false → indent ≡ block_indent level (set_indent level header.digit) column q.mark.column → Blocking folded level p header.chomp indent q [] tail
 blocks_begin folded level p header a b q column indent tail e f t l i n =
-    let (leading, read, wide, breaks, end) = blanks_from column tail.end [] tail.empties.items q (blank_lines (set_indent level header.digit) b) t in
+    let (leading, read, wide, breaks, end) = blanks_from column tail.end [] (breaks_in tail.empties) q (blank_lines (set_indent level header.digit) b) t in
     let here : block folded level p ≡ tail_of folded header.chomp leading (many (text_line (block_indent level (set_indent level header.digit) leading.column q.mark.column)) q) =
     block_is folded level p ∙ ap (after_header folded level) e ∙ ap (after_start folded level header) f ∙ ap (after_leading folded level header) read in
     let same : indent ≡ block_indent level (set_indent level header.digit) leading.column q.mark.column = n ∙ ap (λ (k : ℕ). block_indent level (set_indent level header.digit) k q.mark.column) wide in

@@ -6,7 +6,7 @@ use Rattle.std.specs.Prelude.{nat_lt}
 use Rattle.yaml_text.specs.Classes.{is_break}
 use Rattle.yaml_lexeme.specs.declared.runs.class_t.TheVariants.{SPACE}
 use Rattle.yaml_lexeme.specs.inside.Runs.{class_test, is_solid}
-use Rattle.yaml_lexeme.proofs.Places.PlaceMoves.{length_skip, length_one, within_if, break_within, after_none, after_run_more, first_on}
+use Rattle.yaml_lexeme.proofs.Places.PlaceMoves.{length_skip, length_one, within_if, break_within, after_none, after_run_more, first_on, is_break_len}
 use Rattle.yaml_lexeme.specs.Classes.{is_in_line}
 use Rattle.yaml_lexeme.specs.Gap.{byte_order_mark, is_gap_blank, after_mark, after_comment, after_gap_line}
 use Rattle.yaml_lexeme.specs.Gap.{after_gap_lines, gap}
@@ -147,22 +147,30 @@ space_no_mark p q e h =
       | inr f ↦ let same : first q ≡ first p = ap (λ (r : Place). first r) (e ∙ after_none (class_test SPACE) p f) in (solid_is false (first p) (ap is_solid (sym same) ∙ h)).mark
     ]
 
-pub gap_feed : (p q : Place) → first p ≡ 0x0A → q ≡ after_run (class_test SPACE) (skip 1 p) → is_solid (first q) ≡ true → IsGap p q true
+break_apart : (tabs : Bool) (c : ℕ) → is_break c ≡ true → (is_gap_blank tabs c ≡ false) × ((c == 0x23) ≡ false) × ((c == byte_order_mark) ≡ false)
+break_apart tabs c h = (grind (arith, nat_tests), grind (arith, nat_tests), grind (arith, nat_tests))
+
+-- a break and spaces
+pub gap_break : (p q : Place) → is_break (first p) ≡ true → q ≡ after_run (class_test SPACE) (skip (break_len p) p) → is_solid (first q) ≡ true → IsGap p q true
 unfolding gap
-gap_feed p q e at h flow allowed =
+gap_break p q e at h flow allowed =
     let tabs = flow || not allowed in
     let s = solid_is flow (first q) h in
-    let r = skip 1 p in
-    let mark : (first p == byte_order_mark) ≡ false = rw e refl in
-    let none : is_gap_blank tabs (first p) ≡ false = rw e refl in
-    let comment : (first p == 0x23) ≡ false = rw e refl in
-    let one : break_len p ≡ 1 = rw e refl in
-    let some : nat_lt 0 (break_len p) ≡ true = rw one refl in
-    let front = line_is tabs p p mark (after_none (is_gap_blank tabs) p none) comment in
+    let r = skip (break_len p) p in
+    let c = break_apart tabs (first p) e in
+    let more : 0 < break_len p = is_break_len p e in
+    let some : nat_lt 0 (break_len p) ≡ true = grind (arith, nat_tests) in
+    let front = line_is tabs p p c.2 (after_none (is_gap_blank tabs) p c.0) c.1 in
     let run : after_run (is_gap_blank flow) r ≡ q =
     run_on (class_test SPACE) (is_gap_blank flow) (space_blank flow) refl refl (length r.rest) r (omega arith) ∙ ap (after_run (is_gap_blank flow)) (sym at) ∙ after_none (is_gap_blank flow) q s.blank in
-    let next : next_line flow p ≡ q = ap (λ n. after_gap_line flow (skip n p)) one ∙ line_is flow r q (space_no_mark r q at h) run s.comment in
+    let next : next_line flow p ≡ q = line_is flow r q (space_no_mark r q at h) run s.comment in
     let n = length p.rest in
     let lines : after_gap_lines n flow p ≡ q =
-    any_fuel n (suc n) flow p (omega arith) (omega arith) ∙ step n flow p (omega (arith, one)) ∙ ap (after_gap_lines n flow) next ∙ lines_none n flow q (no_break q s.break) in
+    any_fuel n (suc n) flow p (omega arith) (omega arith) ∙ step n flow p more ∙ ap (after_gap_lines n flow) next ∙ lines_none n flow q (no_break q s.break) in
     rw front (λ i. (lines i, some i))
+
+pub gap_feed : (p q : Place) → first p ≡ 0x0A → q ≡ after_run (class_test SPACE) (skip 1 p) → is_solid (first q) ≡ true → IsGap p q true
+gap_feed p q e at h =
+    let yes : is_break (first p) ≡ true = rw e refl in
+    let one : break_len p ≡ 1 = rw e refl in
+    gap_break p q yes (at ∙ ap (λ n. after_run (class_test SPACE) (skip n p)) (sym one)) h

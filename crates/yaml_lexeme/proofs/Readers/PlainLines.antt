@@ -16,19 +16,20 @@ use Rattle.yaml_lexeme.specs.declared.problem.yaml_refusal_t.{yaml_refusal_t}
 use Rattle.yaml_lexeme.specs.declared.problem.yaml_refusal_t.TheVariants as errors
 use Rattle.yaml_lexeme.proofs.Parts.PartByPart.{joined, many_turn, reads_all, reads_none, no_front}
 use Rattle.yaml_lexeme.proofs.Readers.QuotedRuns.{fold_none, no_breaks, column_after, no_marker, space_first, stop_le, first_one}
-use Rattle.yaml_lexeme.proofs.Places.PlaceMoves.{skip_none, skip_skip, length_skip, after_run_more, after_none, rest_skip, solid}
-use Rattle.yaml_lexeme.proofs.Readers.PlainLinks.{tab_from, separator_is, chunk_more, chunk_stop, chunk_there, Gap, at_gap, Passes, passes_more, passes_spaces, passes_all, passed, same_none, link_shortens, tail_all, tail_none, scalar_at, plain_is, after_head}
+use Rattle.yaml_lexeme.proofs.Places.PlaceMoves.{skip_none, skip_skip, length_skip, after_run_more, after_none, first_on, rest_skip, solid, feed_break}
+use Rattle.yaml_lexeme.proofs.Readers.PlainLinks.{link_none, tab_from, separator_is, chunk_more, chunk_stop, chunk_there, Gap, at_gap, Passes, passes_more, passes_spaces, passes_all, passed, same_none, link_shortens, tail_all, tail_none, scalar_at, plain_is, after_head}
 use Rattle.yaml_lexeme.proofs.ManyBytes.TrimmedLists.{trims_at}
 use Rattle.yaml_lexeme.specs.Classes.{is_white}
 use Rattle.yaml_lexeme.specs.Fold.{fold}
 use Rattle.yaml_lexeme.specs.inside.Gives.{Refuses, TakesPart}
 use Rattle.yaml_lexeme.specs.Kind.{is_marker}
-use Rattle.yaml_lexeme.specs.Place.{Place, first, peek, skip, run, run_len, after_run}
+use Rattle.yaml_lexeme.specs.Place.{Place, first, peek, skip, run, run_len, after_run, break_len}
+use Rattle.yaml_lexeme.specs.inside.Moves.{is_feed}
 use Rattle.yaml_lexeme.specs.declared.runs.class_t.TheVariants.{SPACE}
 use Rattle.yaml_lexeme.specs.Plain.{is_bad_colon, is_chunk, chunk, separator, is_over, link, plain}
 use Rattle.yaml_lexeme.specs.Reading.{Offence, Read, found, refuse, Part, part, over, many, with_front, go_on, ◌>>=◌}
 use Rattle.yaml_lexeme.specs.inside.Runs.{class_test, trim, Stands}
-use Rattle.yaml_lexeme.specs.inside.Words.{links, words, plain_of, Goes, is_bad_tab, untabbed}
+use Rattle.yaml_lexeme.specs.inside.Words.{links, words, plain_of, Ends, Goes, is_bad_tab, untabbed}
 
 two_fronts : (a b : List ℕ) (r : Read (List ℕ)) → with_front a (with_front b r) ≡ with_front (a ++ b) r
 two_fronts a b (Ok f) = ap (λ (xs : List ℕ). found xs f.end) (sym (append_assoc a b f.value))
@@ -300,16 +301,143 @@ white_shorter p q w e =
 pub links_end : (flow : Bool) (least : ℕ) (p : Place) (out : List ℕ) → link flow least p ≡ over → with_front out (links flow least p) ≡ found out p
 links_end flow least p out h = links_over flow least p p out (same_none (link flow least p) out p p h refl)
 
--- a line feed and spaces, before a line that is not indented enough
-pub over_below : (flow : Bool) (least : ℕ) (p q : Place) → flow ≡ false → first p ≡ 10 → q ≡ after_run (class_test SPACE) (skip 1 p) → is_white (first q) ≡ false → q.mark.column < least → (link flow least p ≡ over) × (q ≡ after_run is_white p)
-over_below flow least p q block feed e stop low =
+over_if : (flow : Bool) (least : ℕ) (p q : Place) (o c b : Bool) → Gap flow least p q → is_over flow least q ≡ o → is_chunk flow (first q) (peek q 1) ≡ c → is_bad_colon flow (first q) (peek q 1) ≡ b → (o || not (c || b)) ≡ true → link flow least p ≡ over
+over_if flow least p q true c b g o h t e = at_gap flow least p q g ∙ rw o refl
+over_if flow least p q false true b g o h t e = absurd cc
+over_if flow least p q false false true g o h t e = absurd cc
+over_if flow least p q false false false g o h t e =
+    let c : chunk flow q ≡ found [] q = chunk_stop flow q h ∙ rw t refl in
+    at_gap flow least p q g ∙ rw (o, c) refl
+
+-- a separator that ends where no words follow
+pub over_after : (flow : Bool) (least : ℕ) (broken : Bool) (p q : Place) → is_white (first p) ≡ true → Passes least broken q p → Ends flow least q → (link flow least p ≡ over) × (q ≡ after_run is_white p)
+over_after flow least broken p q w s ends =
+    let t = passes_all least broken q p ends.0 s in
+    let gap : Gap flow least p q = record { space = w; read = t.0 ∙ ap (λ (r : Place). found (fold (run is_white p)) r) (sym t.1) } in
+    (over_if flow least p q (is_over flow least q) (is_chunk flow (first q) (peek q 1)) (is_bad_colon flow (first q) (peek q 1)) gap refl refl refl ends.1, t.1)
+
+-- a line feed and spaces, where no words follow
+pub over_below : (flow : Bool) (least : ℕ) (p q : Place) → first p ≡ 10 → q ≡ after_run (class_test SPACE) (skip 1 p) → Ends flow least q → (link flow least p ≡ over) × (q ≡ after_run is_white p)
+over_below flow least p q feed e ends =
     let w : is_white (first p) ≡ true = rw feed refl in
     let fine : is_bad_tab least false p ≡ false = rw feed refl in
     let broken = false || is_break (first p) in
     let next = passes_spaces least broken (skip 1 p) p (passes_more least false p p w fine (record { tab = refl; end = refl })) in
-    let t = passes_all least broken q p stop (subst (λ (r : Place). Passes least broken r p) (sym e) next) in
-    let o : is_over flow least q ≡ true = grind (arith, nat_tests) in
-    (at_gap flow least p q (record { space = w; read = t.0 ∙ ap (λ (r : Place). found (fold (run is_white p)) r) (sym t.1) }) ∙ rw o refl, t.1)
+    over_after flow least broken p q w (subst (λ (r : Place). Passes least broken r p) (sym e) next) ends
+
+blank_is : (c : ℕ) → is_blank c ≡ true → (is_white c ≡ true) × (is_break c ≡ false)
+blank_is c h = (grind (arith, nat_tests), grind (arith, nat_tests))
+
+one_blank : (least : ℕ) (p start : Place) → is_blank (first p) ≡ true → Passes least false p start → Passes least false (skip 1 p) start
+one_blank least p start h s =
+    let c = blank_is (first p) h in
+    let fine : is_bad_tab least false p ≡ false = ap (λ b. b && nat_lt p.mark.column least) (and_right (first p == 0x09) false refl) in
+    subst (λ b. Passes least b (skip 1 p) start) c.1 (passes_more least false p start c.0 fine s)
+
+blanks_from : (least fuel : ℕ) (p start : Place) → length p.rest ≤ fuel → Passes least false p start → Passes least false (after_run is_blank p) start
+blanks_from least zero p start l s =
+    elim (cases_Bool (is_blank (first p))) [
+      | inl t ↦ absurd (omega (arith, l, (after_run_more is_blank p t refl).0))
+      | inr f ↦ subst (λ (q : Place). Passes least false q start) (sym (after_none is_blank p f)) s
+    ]
+blanks_from least (suc fuel) p start l s =
+    elim (cases_Bool (is_blank (first p))) [
+      | inl t ↦
+          let m = after_run_more is_blank p t refl in
+          let shorter : length (skip 1 p).rest ≤ fuel = omega (arith, l, length_skip 1 p, m.0) in
+          subst (λ (q : Place). Passes least false q start) (sym m.1) (blanks_from least fuel (skip 1 p) start shorter (one_blank least p start t s))
+      | inr f ↦ subst (λ (q : Place). Passes least false q start) (sym (after_none is_blank p f)) s
+    ]
+
+-- a line feed after what was passed, alone or after a carriage return
+feed_passes : (least : ℕ) (p start : Place) → first p ≡ 10 → Passes least false p start → Passes least true (skip 1 p) start
+feed_passes least p start e s =
+    let w : is_white (first p) ≡ true = rw e refl in
+    let fine : is_bad_tab least false p ≡ false = rw e refl in
+    let yes : is_break (first p) ≡ true = rw e refl in
+    subst (λ b. Passes least b (skip 1 p) start) yes (passes_more least false p start w fine s)
+
+return_passes : (least : ℕ) (p start : Place) → first p ≡ 13 → peek p 1 ≡ 10 → Passes least false p start → Passes least true (skip 2 p) start
+return_passes least p start e n s =
+    let q = skip 1 p in
+    let w : is_white (first p) ≡ true = rw e refl in
+    let fine : is_bad_tab least false p ≡ false = rw e refl in
+    let yes : is_break (first p) ≡ true = rw e refl in
+    let one = subst (λ b. Passes least b q start) yes (passes_more least false p start w fine s) in
+    let f : first q ≡ 10 = first_on 1 p ∙ n in
+    let w' : is_white (first q) ≡ true = rw f refl in
+    let fine' : is_bad_tab least true q ≡ false = rw f refl in
+    subst (λ (r : Place). Passes least true r start) (skip_skip 1 1 p) (passes_more least true q start w' fine' one)
+
+is_return : (c next : ℕ) → is_feed c next ≡ true → (c == 0x0A) ≡ false → (c ≡ 13) × (next ≡ 10)
+is_return c next h o = (grind (arith, nat_tests), grind (arith, nat_tests))
+
+break_passes : (least : ℕ) (p start : Place) → is_feed (first p) (peek p 1) ≡ true → Passes least false p start → Passes least true (skip (break_len p) p) start
+break_passes least p start h s =
+    elim (cases_Bool (first p == 0x0A)) [
+      | inl t ↦
+          let e : first p ≡ 10 = grind (arith, nat_tests) in
+          let one : break_len p ≡ 1 = rw e refl in
+          rw one (feed_passes least p start e s)
+      | inr f ↦
+          let r = is_return (first p) (peek p 1) h f in
+          let two : break_len p ≡ 2 = rw (r.0, r.1) refl in
+          rw two (return_passes least p start r.0 r.1 s)
+    ]
+
+-- what a second look finds
+pub record Soon (flow : Bool) (least : ℕ) (p s : Place) (b : Bool) : Type 0 where
+  pub over : link flow least p ≡ over
+  pub end : s ≡ after_run is_white p
+  pub broken : b ≡ list_any is_break (run is_white p)
+
+break_white : (c : ℕ) → is_break c ≡ true → is_white c ≡ true
+break_white c h = grind (arith, nat_tests)
+
+-- the character at p is white if that after the blanks is
+white_first : (p : Place) → is_white (first (after_run is_blank p)) ≡ true → is_white (first p) ≡ true
+white_first p h =
+    elim (cases_Bool (is_blank (first p))) [
+      | inl t ↦ (blank_is (first p) t).0
+      | inr f ↦ subst (λ (q : Place). is_white (first q) ≡ true) (after_none is_blank p f) h
+    ]
+
+-- blanks, a line feed and spaces
+pub soon_broken : (flow : Bool) (least : ℕ) (p q s : Place) → q ≡ after_run is_blank p → is_feed (first q) (peek q 1) ≡ true → s ≡ after_run (class_test SPACE) (skip (break_len q) q) → Ends flow least s → Soon flow least p s true
+soon_broken flow least p q s at feed e ends =
+    let yes : is_break (first q) ≡ true = feed_break (first q) (peek q 1) feed in
+    let w : is_white (first p) ≡ true = white_first p (subst (λ (r : Place). is_white (first r) ≡ true) at (break_white (first q) yes)) in
+    let start : Passes least false p p = record { tab = refl; end = refl } in
+    let front : Passes least false q p = subst (λ (r : Place). Passes least false r p) (sym at) (blanks_from least (length p.rest) p p (omega arith) start) in
+    let all = subst (λ (r : Place). Passes least true r p) (sym e) (passes_spaces least true (skip (break_len q) q) p (break_passes least q p feed front)) in
+    let t = over_after flow least true p s w all ends in
+    record { over = t.0; end = t.1; broken = sym (passed p ∙ ap (λ (r : Place). is_break (first r)) (sym at) ∙ yes) }
+
+not_white : (c : ℕ) → is_white c ≡ false → is_break c ≡ false
+not_white c h = grind (arith, nat_tests)
+
+-- blanks alone
+pub soon_in_line : (flow : Bool) (least : ℕ) (p q : Place) → q ≡ after_run is_blank p → Ends flow least q → Soon flow least p q false
+soon_in_line flow least p q at ends =
+    let b : false ≡ list_any is_break (run is_white p) = sym (passed p ∙ ap (λ (r : Place). is_break (first r)) (sym at) ∙ not_white (first q) ends.0) in
+    elim (cases_Bool (is_white (first p))) [
+      | inl w ↦
+          let start : Passes least false p p = record { tab = refl; end = refl } in
+          let all = subst (λ (r : Place). Passes least false r p) (sym at) (blanks_from least (length p.rest) p p (omega arith) start) in
+          let t = over_after flow least false p q w all ends in
+          record { over = t.0; end = t.1; broken = b }
+      | inr f ↦
+          let none : is_blank (first p) ≡ false = grind (arith, nat_tests) in
+          record { over = link_none flow least p f; end = at ∙ after_none is_blank p none ∙ sym (after_none is_white p f); broken = b }
+    ]
+
+-- a second look at the separator at p, whose blanks end at q, and which ends at s
+pub soon : (flow : Bool) (least : ℕ) (p q s : Place) (b : Bool) → q ≡ after_run is_blank p → b ≡ is_feed (first q) (peek q 1) → (b ≡ true → s ≡ after_run (class_test SPACE) (skip (break_len q) q)) → (b ≡ false → s ≡ q) → Ends flow least s
+    → Soon flow least p s b
+soon flow least p q s true at h taken stays ends = soon_broken flow least p q s at (sym h) (taken refl) ends
+soon flow least p q s false at h taken stays ends =
+    let e : s ≡ q = stays refl in
+    subst (λ (r : Place). Soon flow least p r false) (sym e) (soon_in_line flow least p q at (subst (λ (r : Place). Ends flow least r) e ends))
 
 -- a break is in it
 pub passed_feed : (p : Place) → first p ≡ 10 → list_any is_break (run is_white p) ≡ true

@@ -1,6 +1,6 @@
 -- Runs of characters of a class, and of the bytes that spell them.
 use Rattle.std.specs.Prelude.{ℕ, ◌≡◌, ◌≤◌, ◌/◌, Bool, true, false, not, ◌&&◌, ◌||◌, ◌==◌, if◌then◌else◌, List, []}
-use Rattle.std.specs.Prelude.{◌∷◌, codes, length, take, nat_lt}
+use Rattle.std.specs.Prelude.{◌∷◌, ◌+◌, codes, length, take, slice_index, nat_lt}
 use Rattle.std.specs.List.{list_all}
 use Rattle.yaml_text.specs.Classes.{is_blank, is_break, is_alpha}
 use Rattle.yaml_lexeme.specs.declared.runs.class_t.{class_t}
@@ -61,6 +61,26 @@ is_quiet class b = not (is_stop class b)
 -- a byte that begins a character
 abbrev pub begins : ℕ → Bool
 begins b = not (b / 64 == 2)
+
+-- A break may begin with b, but x and y after it show that none does.
+abbrev pub is_false_lead : ℕ → ℕ → ℕ → Bool
+is_false_lead b x y =
+    (b == 0xC2 && not (x == 0x85)) || (b == 0xE2 && not (x == 0x80 && (y == 0xA8 || y == 0xA9)))
+
+-- the same of the first of three bytes or more
+abbrev pub is_false_lead_of : List ℕ → Bool
+is_false_lead_of (b ∷ x ∷ y ∷ more) = is_false_lead b x y
+is_false_lead_of other = false
+
+-- how many of the first bytes of a line end no run of the class
+abbrev pub clear_len : class_t → List ℕ → ℕ
+clear_len class [] = 0
+clear_len class (b ∷ bs) =
+    if is_stop class b && not (is_false_lead_of (b ∷ bs)) then 0 else 1 + clear_len class bs
+
+-- The first n bytes of a line end no run of the class, and the byte after them begins a character.
+abbrev pub Clear : class_t → List ℕ → ℕ → Type 0
+Clear class bytes n = (n ≤ clear_len class bytes) × (begins (slice_index bytes n) ≡ true)
 
 -- the class of what is kept unchanged between quotes
 abbrev pub line_of : Bool → class_t

@@ -1,14 +1,16 @@
 -- Parts of a quoted body, and words of a plain scalar, that are read at once.
-use Rattle.std.specs.Prelude.{◌≡◌, ℕ, Bool, true, false, List, [], take, Result, Ok, Err, ◌&&◌, ◌==◌, nat_lt, Option}
+use Rattle.std.specs.Prelude.{◌≡◌, ℕ, Bool, true, false, List, [], take, Result, Ok, Err}
+use Rattle.std.specs.Prelude.{not, ◌&&◌, ◌||◌, ◌==◌, nat_lt, Option}
 use Rattle.std.specs.Prelude.{option_map, unwrap_or}
 use Rattle.yaml_text.specs.Chars.{utf8}
 use Rattle.yaml_lexeme.specs.declared.problem.yaml_refusal_t.{yaml_refusal_t}
 use Rattle.yaml_lexeme.specs.declared.runs.class_t.{class_t}
 use Rattle.yaml_lexeme.specs.declared.runs.class_t.TheVariants.{PLAIN, FLOW}
-use Rattle.yaml_lexeme.specs.Place.{Place, skip, first}
+use Rattle.yaml_lexeme.specs.Place.{Place, peek, skip, first}
+use Rattle.yaml_lexeme.specs.Classes.{is_white}
 use Rattle.yaml_lexeme.specs.Reading.{Read, found, ◌>>=◌, many, with_front, refuse}
 use Rattle.yaml_lexeme.specs.Quoted.{body_part, spelled}
-use Rattle.yaml_lexeme.specs.Plain.{chunk, link}
+use Rattle.yaml_lexeme.specs.Plain.{is_bad_colon, is_chunk, chunk, is_over, link}
 use Rattle.yaml_lexeme.specs.inside.Gives.{Refuses}
 use Rattle.yaml_lexeme.specs.declared.problem.yaml_problem_t.TheVariants.{TAB_IN_PLAIN}
 
@@ -56,6 +58,13 @@ abbrev pub LeavesMore : Result Bool yaml_refusal_t → Read (List ℕ) → Read 
 LeavesMore (Ok true) before after out q = before ≡ after
 LeavesMore (Ok false) before after out q = before ≡ found out q
 LeavesMore (Err e) before after out q = Refuses e q before
+
+-- A plain scalar does not go on at q, where a separator ends.
+abbrev pub Ends : Bool → ℕ → Place → Type 0
+Ends flow least q =
+    let c = first q in
+    let next = peek q 1 in
+    (is_white c ≡ false) × ((is_over flow least q || not (is_chunk flow c next || is_bad_colon flow c next)) ≡ true)
 
 -- a tab in indentation: at a column below `least`, in a separator with a break before it
 abbrev pub is_bad_tab : ℕ → Bool → Place → Bool

@@ -6,7 +6,7 @@ use Rattle.yaml_text.specs.declared.types.yaml_encoding_t.{yaml_encoding_t}
 use Rattle.yaml_text.specs.declared.fault.yaml_fault_t.{yaml_fault_t}
 use Rattle.yaml_text.specs.Fault.{Fault, fault_of, memory_fault}
 use Rattle.yaml_scan.specs.Course.{ended, Input, Course, course}
-use Rattle.yaml_scan.specs.declared.scanner.scanner_t.{scanner_t}
+use Rattle.yaml_scan.specs.inside.Scanner.{Scanner}
 use Rattle.yaml_scan.specs.Token.{yaml_token_t, empty, type_of}
 use Rattle.yaml_scan.specs.TokenTypes.{is_last_type}
 use Rattle.yaml_scan.specs.Laid.{Laid, reach}
@@ -21,7 +21,7 @@ use Rattle.yaml_scan.specs.Session.Call.{SCAN, PEEK, SKIP}
 use Rattle.yaml_scan.specs.Session.Answer.{TOKEN, PEEKED, FAULT}
 use Rattle.yaml_scan.specs.Decoded.{decoded_input}
 use Rattle.yaml_scan.specs.inside.Scanning.{IsOpen, history, course_of, input_of}
-use Rattle.yaml_scan.specs.inside.Ready.{IsIn, IsShown, IsSettled, IsStopped, IsShort, IsEnded, Pops, course_in}
+use Rattle.yaml_scan.specs.inside.Ready.{IsIn, IsShown, IsSettled, IsStopped, IsShort, IsEnded, Pops, course_in, fault_in}
 use Rattle.yaml_scan.specs.Parser.{Parser, course_by}
 use Rattle.yaml_scan.specs.ParserCalls.{scan_result, IsThere, IsRefusedEarly, input_read, course_read, answered, after_call}
 use Rattle.yaml_scan.specs.Headline.{Calls, WantsMemory}
@@ -87,7 +87,7 @@ same_stopped : (input : List ℕ) (setting : yaml_encoding_t) (l l' n n' m m' : 
 same_stopped input setting l l' n n' m m' f f' a b c d = λ k. record { input = input; setting = setting; limit = a k; session = record { taken = b k; steps = c k; peeked = false; over = true; fault = d k } }
 
 -- A TOKEN THAT IS TAKEN
-module _ (setting : yaml_encoding_t) (input : List ℕ) (s t u : scanner_t) (x : yaml_token_t) (k : IsSettled setting input s t) (p : Pops t u x) where
+module _ (setting : yaml_encoding_t) (input : List ℕ) (s t u : Scanner) (x : yaml_token_t) (k : IsSettled setting input s t) (p : Pops t u x) where
   abbrev C : Course
   C = course_in s.limit setting input
 
@@ -166,7 +166,7 @@ module _ (setting : yaml_encoding_t) (input : List ℕ) (s t u : scanner_t) (x :
     take_left_of q r o e = take_left o e ∙ ap (λ (z : Parser). after_call z SKIP) (sym r)
 
 -- the next token was shown: no step is made for it
-pub shown_settled : (setting : yaml_encoding_t) (input : List ℕ) (s : scanner_t) → IsShown setting input s → IsSettled setting input s s
+pub shown_settled : (setting : yaml_encoding_t) (input : List ℕ) (s : Scanner) → IsShown setting input s → IsSettled setting input s s
 unfolding pace
 shown_settled setting input s k =
     let e = enough_made s k.stands.runs k.settled in
@@ -183,7 +183,7 @@ get_some (x ∷ xs) zero l = (x, refl)
 get_some (x ∷ xs) (suc n) l = get_some xs n (omega arith)
 
 -- A TOKEN THAT IS SHOWN
-module _ (setting : yaml_encoding_t) (input : List ℕ) (s t : scanner_t) (k : IsSettled setting input s t) where
+module _ (setting : yaml_encoding_t) (input : List ℕ) (s t : Scanner) (k : IsSettled setting input s t) where
   abbrev D : Course
   D = course_in s.limit setting input
 
@@ -239,7 +239,7 @@ module _ (setting : yaml_encoding_t) (input : List ℕ) (s t : scanner_t) (k : I
         (subst (λ (z : Parser). Shows z true now_shown) (sym r) (inl (ap PEEKED shown_is ∙ sym answer_is, show_left)))
 
 -- it is the first one that the queue hands out
-module _ (setting : yaml_encoding_t) (input : List ℕ) (s : scanner_t) (k : IsShown setting input s) (x : yaml_token_t) (f : IsFirst s.text.encoding (drop s.taken (offline (history s))) x) where
+module _ (setting : yaml_encoding_t) (input : List ℕ) (s : Scanner) (k : IsShown setting input s) (x : yaml_token_t) (f : IsFirst s.text.encoding (drop s.taken (offline (history s))) x) where
   next_is : slice_get (tokens_of s.limit (course_in s.limit setting input)) s.taken ≡ Some f.0
   next_is =
       let c = course_is setting input s k.stands.reads in
@@ -335,9 +335,12 @@ module _ (p q : Parser) (o : p.session.over ≡ false) where
       (left_peek ∙ ap (λ (z : Option Token). after_peek p.limit (course_read p) p.session z) n
       ∙ sym (left_scan ∙ ap (λ (z : Option Token). after_scan p.limit (course_read p) p.session z) n))
 
+  pub scan_faulty : (f : Fault) → Calls decoded_input PEEK p (FAULT f) q → Calls decoded_input SCAN p (FAULT f) q
+  scan_faulty f (inr a) = inr (a.0, a.1, λ e. absurd (cc))
+  scan_faulty f (inl a) = (let n = no_token (input_read p).encoding (course_read p) next f (a.0 ∙ open_peek) in inl (a.0 ∙ same_answer n, a.1 ∙ same_left n))
+
   pub scan_not_shown : (f : yaml_fault_t) → Calls decoded_input PEEK p (FAULT (fault_of f)) q → Calls decoded_input SCAN p (scan_result (Err f)) q
-  scan_not_shown f (inr a) = inr (a.0, a.1, λ e. absurd (cc))
-  scan_not_shown f (inl a) = (let n = no_token (input_read p).encoding (course_read p) next (fault_of f) (a.0 ∙ open_peek) in inl (a.0 ∙ same_answer n, a.1 ∙ same_left n))
+  scan_not_shown f a = scan_faulty (fault_of f) a
 
 some_fault : (a b : Fault) → Some a ≡ Some b → a ≡ b
 some_fault a b e = cc
@@ -351,7 +354,7 @@ get_none [] n l = refl
 get_none (x ∷ xs) zero l = absurd (omega arith)
 get_none (x ∷ xs) (suc n) l = get_none xs n (omega arith)
 
-module _ (setting : yaml_encoding_t) (input : List ℕ) (s t : scanner_t) (peeked : Bool) (fault : Option Fault) (f : yaml_fault_t) (z : IsStopped setting input s t) where
+module _ (setting : yaml_encoding_t) (input : List ℕ) (s t : Scanner) (peeked : Bool) (fault : Option Fault) (f : yaml_fault_t) (z : IsStopped setting input s t) where
   abbrev before_fault : Session
   before_fault = record { taken = s.taken; steps = s.made; peeked = peeked; over = false; fault = fault }
 
@@ -400,6 +403,17 @@ module _ (setting : yaml_encoding_t) (input : List ℕ) (s t : scanner_t) (peeke
 
 pub open_session : (p : Parser) → p.session.over ≡ false → p ≡ record { input = p.input; setting = p.setting; limit = p.limit; session = record { taken = p.session.taken; steps = p.session.steps; peeked = p.session.peeked; over = false; fault = p.session.fault } }
 open_session p o = λ k. record { input = p.input; setting = p.setting; limit = p.limit; session = record { taken = p.session.taken; steps = p.session.steps; peeked = p.session.peeked; over = o k; fault = p.session.fault } }
+
+pub open_as : (p : Parser) (f : Option Fault) → p.session.over ≡ false → p.session.fault ≡ f → p ≡ record { input = p.input; setting = p.setting; limit = p.limit; session = record { taken = p.session.taken; steps = p.session.steps; peeked = p.session.peeked; over = false; fault = f } }
+open_as p f o g = λ k. record { input = p.input; setting = p.setting; limit = p.limit; session = record { taken = p.session.taken; steps = p.session.steps; peeked = p.session.peeked; over = o k; fault = g k } }
+
+pub shown_as : (p : Parser) (f : Option Fault) → p.session.over ≡ false → p.session.peeked ≡ true → p.session.fault ≡ f → p ≡ record { input = p.input; setting = p.setting; limit = p.limit; session = record { taken = p.session.taken; steps = p.session.steps; peeked = true; over = false; fault = f } }
+shown_as p f o k g = λ i. record { input = p.input; setting = p.setting; limit = p.limit; session = record { taken = p.session.taken; steps = p.session.steps; peeked = k i; over = o i; fault = g i } }
+
+-- what is kept is no fault of a session that did not fail
+pub none_failed : (failed : Bool) (a b : Option yaml_fault_t) → failed ≡ false → fault_in failed a ≡ fault_in failed b
+none_failed false a b e = refl
+none_failed true a b e = absurd (false≢true (sym e))
 
 pub shown_session : (p : Parser) → p.session.over ≡ false → p.session.peeked ≡ true → p ≡ record { input = p.input; setting = p.setting; limit = p.limit; session = record { taken = p.session.taken; steps = p.session.steps; peeked = true; over = false; fault = p.session.fault } }
 shown_session p o k = λ i. record { input = p.input; setting = p.setting; limit = p.limit; session = record { taken = p.session.taken; steps = p.session.steps; peeked = k i; over = o i; fault = p.session.fault } }

@@ -7,7 +7,7 @@ use Rattle.yaml_scan.specs.Laid.{Laid}
 use Rattle.yaml_scan.specs.Order.{IsHistory}
 use Rattle.yaml_scan.specs.Settled.{before, pace, steps_for}
 use Rattle.yaml_scan.specs.Token.{yaml_token_t}
-use Rattle.yaml_scan.specs.declared.scanner.scanner_t.{scanner_t}
+use Rattle.yaml_scan.specs.inside.Scanner.{Scanner}
 use Rattle.yaml_scan.specs.inside.Handed.{is_end}
 use Rattle.yaml_scan.specs.inside.Scanning.{IsOpen, IsRunning, Settles, course_of, history}
 use Rattle.yaml_scan.specs.inside.Sent.{Drains, DrainsOrStays, Sends}
@@ -16,10 +16,10 @@ use Rattle.yaml_scan.proofs.RunningCalls.GivenTokens.{course_as, more_given, non
 use Rattle.yaml_scan.proofs.RunningCalls.NextOfInput.{course_same, inside, read_history}
 
 -- ONE AFTER THE OTHER
-pub none_drained : (s : scanner_t) → IsRunning s → IsOpen s → Drains s s []
+pub none_drained : (s : Scanner) → IsRunning s → IsOpen s → Drains s s []
 none_drained s r o = record { given = none_given s r o; taken = omega arith; made = refl; no_end = refl }
 
-pub more_drained : (s t u : scanner_t) (xs ys : List yaml_token_t) → Drains s t xs → Drains t u ys → Drains s u (xs ++ ys)
+pub more_drained : (s t u : Scanner) (xs ys : List yaml_token_t) → Drains s t xs → Drains t u ys → Drains s u (xs ++ ys)
 more_drained s t u xs ys a b = record {
   given = more_given s t u xs ys a.given b.given;
   taken = (let l = length-append xs ys in let m = a.taken in let n = b.taken in omega arith);
@@ -28,7 +28,7 @@ more_drained s t u xs ys a b = record {
 }
 
 -- what was given so far
-pub drained_so_far : (s t : scanner_t) (took : List yaml_token_t → Type 0) (any : Bool) → IsRunning s → IsOpen s → DrainsOrStays s t took any → (tokens : List yaml_token_t) × Drains s t tokens × took tokens
+pub drained_so_far : (s t : Scanner) (took : List yaml_token_t → Type 0) (any : Bool) → IsRunning s → IsOpen s → DrainsOrStays s t took any → (tokens : List yaml_token_t) × Drains s t tokens × took tokens
 drained_so_far s t took true r o w = (w.0, w.1, w.3)
 drained_so_far s t took false r o w = ([], rw w.0 (none_drained s r o), w.1)
 
@@ -47,7 +47,7 @@ later_needs limit H t k h l = elim (cases_lt (steps_for limit H k) (steps_for li
 ]
 
 -- s is settled after the steps of a, and then tokens were given
-module _ (a s u : scanner_t) (tokens : List yaml_token_t) (k : Settles a s) (d : Drains s u tokens) (some : 0 < length tokens) where
+module _ (a s u : Scanner) (tokens : List yaml_token_t) (k : Settles a s) (d : Drains s u tokens) (some : 0 < length tokens) where
   course_u : course_of u ≡ course_of a
   course_u = course_as s u d.given.text d.given.refusal d.given.limit ∙ course_same a s k.same
 

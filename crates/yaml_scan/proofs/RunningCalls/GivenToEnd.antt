@@ -1,6 +1,6 @@
 -- A sink is given all tokens of an input, or those before its fault, or those that some of the steps settle.
 use Rattle.std.proofs.Common.{◌≡◌, ℕ, zero, suc, ◌+◌, ◌-◌, ◌≤◌, ◌<◌, ◌||◌, Bool, true, false, List, [], ◌∷◌, ◌++◌, map, take, length, slice_get, Some, None, append_assoc, refl, ap, sym, ◌∙◌, subst, arith, inl, inr, lt-ltb}
-use Rattle.std.specs.Prelude.{◌⊎◌, Result, Ok, Err, MatchResult}
+use Rattle.std.specs.Prelude.{◌⊎◌, Option, Result, Ok, Err, MatchResult}
 use Rattle.std.specs.List.{list_any}
 use Rattle.std.proofs.lemmas.List.{take_all, take-append-le}
 use Rattle.yaml_text.specs.declared.fault.yaml_fault_t.{yaml_fault_t}
@@ -10,7 +10,7 @@ use Rattle.yaml_text.specs.Text.{Text}
 use Rattle.yaml_scan.specs.Course.{oldest, ended, Course, Input, course}
 use Rattle.yaml_scan.specs.declared.fault.stop_t.{stop_t}
 use Rattle.yaml_scan.specs.declared.fault.stop_t.TheVariants.{SINK}
-use Rattle.yaml_scan.specs.declared.scanner.scanner_t.{scanner_t}
+use Rattle.yaml_scan.specs.inside.Scanner.{Scanner}
 use Rattle.yaml_scan.specs.All.{AllOf, AreSettled, ReadsAll}
 use Rattle.yaml_scan.specs.Answers.{answers}
 use Rattle.yaml_scan.specs.Begins.{Begins}
@@ -54,7 +54,7 @@ words_at e (y ∷ xs) zero x w q = let p : y ≡ x = cc in subst (λ (z : Token)
 words_at e (y ∷ xs) (suc n) x w q = words_at e xs n x w.1 q
 
 -- THE HEAD OF THE QUEUE IS GIVEN
-module _ (s t : scanner_t) (x : yaml_token_t) (r : IsRunning s) (p : Pops s t x) where
+module _ (s t : Scanner) (x : yaml_token_t) (r : IsRunning s) (p : Pops s t x) where
   abbrev h : Token → yaml_token_t
   h y = handed_out s.text.encoding y
 
@@ -117,7 +117,7 @@ module _ (s t : scanner_t) (x : yaml_token_t) (r : IsRunning s) (p : Pops s t x)
       )
 
 -- after others
-module _ (s u t : scanner_t) (zs : List yaml_token_t) (x : yaml_token_t) (g : HasGiven s u zs) (p : Pops u t x) where
+module _ (s u t : Scanner) (zs : List yaml_token_t) (x : yaml_token_t) (g : HasGiven s u zs) (p : Pops u t x) where
   pub given_on : is_last_type (type_of x.token_data) ≡ false → HasGiven s t (zs ++ x ∷ [])
   given_on n = more_given s u t zs (x ∷ []) g (head_given u t x g.runs p n)
 
@@ -150,7 +150,7 @@ none_is_end e (x ∷ xs) a f = neither (is_end (handed_out e x)) (list_any is_en
     neither a b p q = rw (p, q) refl
 
 -- a scanner that is stuck has handed out what its steps settle
-module _ (m : scanner_t) (r : IsRunning m) (o : IsOpen m) (l : length (before m.limit (history m)) ≤ m.taken) where
+module _ (m : Scanner) (r : IsRunning m) (o : IsOpen m) (l : length (before m.limit (history m)) ≤ m.taken) where
   stuck_at : take m.taken (all_in m) ≡ before m.limit (history m)
   stuck_at =
       let b = settled_begins m r in
@@ -164,7 +164,7 @@ module _ (m : scanner_t) (r : IsRunning m) (o : IsOpen m) (l : length (before m.
   stuck_on : list_any is_end (told_taken m) ≡ false
   stuck_on = rw stuck_at (none_is_end m.text.encoding (before m.limit (history m)) (settled_on m.limit (history m) r.holds.is_history (still_running m r o l)) stuck_fit)
 
-module _ (limit : ℕ) (setting : yaml_encoding_t) (input : List ℕ) (s : scanner_t) (k : IsIn setting input s) (L : s.limit ≡ limit) where
+module _ (limit : ℕ) (setting : yaml_encoding_t) (input : List ℕ) (s : Scanner) (k : IsIn setting input s) (L : s.limit ≡ limit) where
   abbrev I : Input
   I = decoded_input setting input
 
@@ -213,7 +213,7 @@ module _ (limit : ℕ) (setting : yaml_encoding_t) (input : List ℕ) (s : scann
           (subst (λ (y : List yaml_token_t). Begins (y ++ (c.front ++ c.next ∷ [])) (told_all s)) none_taken c.begins);
     }
 
-    module _ (m : scanner_t) (tokens : List yaml_token_t) (g : HasGiven s m tokens) (u : length (before m.limit (history m)) ≤ m.taken) where
+    module _ (m : Scanner) (tokens : List yaml_token_t) (g : HasGiven s m tokens) (u : length (before m.limit (history m)) ≤ m.taken) where
       tokens_then : tokens ≡ told_taken m
       tokens_then = sym (g.given ∙ ap (λ (y : List yaml_token_t). y ++ tokens) none_taken)
 
@@ -252,13 +252,13 @@ module _ (limit : ℕ) (setting : yaml_encoding_t) (input : List ℕ) (s : scann
       reads_then f (inl e) = inr (are_settled, ap Some e)
       reads_then f (inr i) = inl (all_then f i)
 
-    pub stopped_then : (kept : yaml_fault_t) (stop : stop_t) (refuses : Type 0) → StopsGiving s kept stop took refuses
+    pub stopped_then : (kept : Option yaml_fault_t) (stop : stop_t) (refuses : Type 0) → StopsGiving s kept stop took refuses
         → IsGivenAll took limit setting input (Some (fault_at stop kept)) ⊎ ((stop ≡ SINK) × IsGivenFront took limit setting input × refuses)
     stopped_then kept stop refuses (inl w) = let g = w.2 in let i = w.3 in inl (record { tokens = w.0; given = w.4; reads = reads_then w.1 w.0 g i.unsettled (fault_at stop kept) i.fault })
     stopped_then kept stop refuses (inr w) = inr (w.0, front_given w.1, w.2)
 
     -- the rest was given, or it has stopped
-    pub finished : (kept : yaml_fault_t) (refuses : Type 0) (out : Result (Unit {0}) stop_t) → MatchResult out (λ _. GaveRest s took) (λ stop. StopsGiving s kept stop took refuses) → GivesAll took refuses limit setting input kept out
+    pub finished : (kept : Option yaml_fault_t) (refuses : Type 0) (out : Result (Unit {0}) stop_t) → MatchResult out (λ _. GaveRest s took) (λ stop. StopsGiving s kept stop took refuses) → GivesAll took refuses limit setting input kept out
     finished kept refuses (Ok x) w = all_given w
     finished kept refuses (Err stop) w = stopped_then kept stop refuses w
 
@@ -267,7 +267,7 @@ begins_none : (xs : List Token) → length xs ≤ 0 → xs ≡ []
 begins_none [] l = refl
 begins_none (x ∷ xs) l = absurd (omega arith)
 
-pub none_made : (setting : yaml_encoding_t) (input : List ℕ) (s t : scanner_t) (f : Fault) → s.taken ≡ 0 → IsShort setting input s f ⊎ IsEnded setting input s t f → ReadsAll s.limit setting input [] (Some f)
+pub none_made : (setting : yaml_encoding_t) (input : List ℕ) (s t : Scanner) (f : Fault) → s.taken ≡ 0 → IsShort setting input s f ⊎ IsEnded setting input s t f → ReadsAll s.limit setting input [] (Some f)
 unfolding answers_to answers
 none_made setting input s t f z (inl k) = inr (
   record {
@@ -286,7 +286,7 @@ none_made setting input s t f z (inr k) =
     inl (ap (λ (y : List Token). map (handed_out (decoded_input setting input).encoding) y) (sym e), sym k.fault)
 
 -- why it gives no more: the sink refused a token, which is no fault, or there is a fault
-module _ (took : List yaml_token_t → Type 0) (refuses : Type 0) (n limit : ℕ) (l : n ≡ limit) (setting : yaml_encoding_t) (input : List ℕ) (kept : yaml_fault_t) (stop : stop_t) where
+module _ (took : List yaml_token_t → Type 0) (refuses : Type 0) (n limit : ℕ) (l : n ≡ limit) (setting : yaml_encoding_t) (input : List ℕ) (kept : Option yaml_fault_t) (stop : stop_t) where
   no_sink_fault : stop ≡ SINK → IsGivenAll took n setting input (Some (fault_at stop kept)) → ⊥
   no_sink_fault e w =
       let v : IsGivenAll took n setting input (Some no_fault) = subst (λ (x : stop_t). IsGivenAll took n setting input (Some (fault_at x kept))) e w in

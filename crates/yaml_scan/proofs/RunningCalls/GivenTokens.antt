@@ -1,6 +1,6 @@
 -- What a running scanner has given to a sink is what was taken of its input, step after step.
 use Rattle.std.proofs.Common.{◌≡◌, ℕ, ◌+◌, ◌-◌, ◌≤◌, ◌<◌, ◌||◌, Bool, true, false, List, [], ◌∷◌, ◌++◌, map, take, drop, take-append-drop, length, length-append, length-drop, append-nil, append_assoc, refl, ap, sym, ◌∙◌, subst, arith, inl, inr}
-use Rattle.std.specs.Prelude.{Result, Ok, Err, MatchResult}
+use Rattle.std.specs.Prelude.{Option, Result, Ok, Err, MatchResult}
 use Rattle.std.specs.List.{list_any}
 use Rattle.std.proofs.lemmas.Bool.{cases_Bool, cases_lt, false≢true}
 use Rattle.std.proofs.lemmas.List.{map-append, length-map, take_all, take-append-le, drop-append-le, drop_all}
@@ -11,7 +11,7 @@ use Rattle.yaml_text.specs.Text.{Text}
 use Rattle.yaml_scan.specs.Course.{ended, Course, next}
 use Rattle.yaml_scan.specs.declared.fault.stop_t.{stop_t}
 use Rattle.yaml_scan.specs.declared.groups.group_t.{group_t}
-use Rattle.yaml_scan.specs.declared.scanner.scanner_t.{scanner_t}
+use Rattle.yaml_scan.specs.inside.Scanner.{Scanner}
 use Rattle.yaml_scan.specs.Begins.{Begins}
 use Rattle.yaml_scan.specs.Groups.{Token, block_ends, groups, handed_out, inserted, offline}
 use Rattle.yaml_scan.specs.Groups.Token.{OfLexeme}
@@ -37,7 +37,7 @@ use Rattle.yaml_scan.proofs.RunningCalls.StepsMade.{ended_all, still_running}
 
 -- ONE AFTER THE OTHER
 -- what was taken of the same text
-module _ (s t : scanner_t) (H : t.text ≡ s.text) (J : t.refusal ≡ s.refusal) (L : t.limit ≡ s.limit) where
+module _ (s t : Scanner) (H : t.text ≡ s.text) (J : t.refusal ≡ s.refusal) (L : t.limit ≡ s.limit) where
   pub course_as : course_of t ≡ course_of s
   unfolding course_of
   course_as = rw (H, J, L) refl
@@ -53,10 +53,10 @@ module _ (s t : scanner_t) (H : t.text ≡ s.text) (J : t.refusal ≡ s.refusal)
       ∙ ap (λ (z : List Token). map (handed_out s.text.encoding) (take t.taken z)) all_as
       ∙ ap (λ (k : ℕ). map (handed_out s.text.encoding) (take k (all_in s))) e
 
-pub none_given : (s : scanner_t) → IsRunning s → IsOpen s → HasGiven s s []
+pub none_given : (s : Scanner) → IsRunning s → IsOpen s → HasGiven s s []
 none_given s r o = record { runs = r; still_open = o; text = refl; refusal = refl; limit = refl; grows = omega arith; given = sym (append-nil (told_taken s)) }
 
-pub more_given : (s t u : scanner_t) (xs ys : List yaml_token_t) → HasGiven s t xs → HasGiven t u ys → HasGiven s u (xs ++ ys)
+pub more_given : (s t u : Scanner) (xs ys : List yaml_token_t) → HasGiven s t xs → HasGiven t u ys → HasGiven s u (xs ++ ys)
 more_given s t u xs ys a b = record {
   runs = b.runs;
   still_open = b.still_open;
@@ -68,7 +68,7 @@ more_given s t u xs ys a b = record {
 }
 
 -- the first of the next tokens, and the one that was refused
-pub cut_of : (s : scanner_t) (took : List yaml_token_t → Type 0) (tokens : List yaml_token_t) → Begins (told_taken s ++ tokens) (told_all s) → IsCut took tokens → IsCutOff s took
+pub cut_of : (s : Scanner) (took : List yaml_token_t → Type 0) (tokens : List yaml_token_t) → Begins (told_taken s ++ tokens) (told_all s) → IsCut took tokens → IsCutOff s took
 cut_of s took tokens b c =
     let f : List yaml_token_t = c.front ++ c.next ∷ [] in
     let r : List yaml_token_t = c.begins.rest in
@@ -84,7 +84,7 @@ cut_of s took tokens b c =
       given = c.given;
     }
 
-module _ (s t : scanner_t) (xs : List yaml_token_t) (g : HasGiven s t xs) (took took' : List yaml_token_t → Type 0) (m : (ys : List yaml_token_t) → took' ys → took (xs ++ ys)) where
+module _ (s t : Scanner) (xs : List yaml_token_t) (g : HasGiven s t xs) (took took' : List yaml_token_t → Type 0) (m : (ys : List yaml_token_t) → took' ys → took (xs ++ ys)) where
   pub cut_on : IsCutOff t took' → IsCutOff s took
   cut_on c =
       let f : List yaml_token_t = c.front ++ c.next ∷ [] in
@@ -100,16 +100,16 @@ module _ (s t : scanner_t) (xs : List yaml_token_t) (g : HasGiven s t xs) (took 
         given = m c.front c.given;
       }
 
-  pub stops_on : (kept : yaml_fault_t) (stop : stop_t) (refuses : Type 0) → StopsGiving t kept stop took' refuses → StopsGiving s kept stop took refuses
+  pub stops_on : (kept : Option yaml_fault_t) (stop : stop_t) (refuses : Type 0) → StopsGiving t kept stop took' refuses → StopsGiving s kept stop took refuses
   stops_on kept stop refuses (inl w) = inl (xs ++ w.0, w.1, more_given s t w.1 xs w.0 g w.2, w.3, m w.0 w.4)
   stops_on kept stop refuses (inr w) = inr (w.0, cut_on w.1, w.2)
 
 -- there are only so many steps
-pub steps_within : (s t : scanner_t) (xs : List yaml_token_t) → HasGiven s t xs → t.made ≤ length (course_of s).read + 1
+pub steps_within : (s t : Scanner) (xs : List yaml_token_t) → HasGiven s t xs → t.made ≤ length (course_of s).read + 1
 steps_within s t xs g = let w = g.runs.within in let c = ap (λ (x : Course). length x.read) (course_as s t g.text g.refusal g.limit) in omega arith
 
 -- WHAT IS SETTLED IS GIVEN
-module _ (s : scanner_t) (ys : List group_t) (r : RunsWith s ys) where
+module _ (s : Scanner) (ys : List group_t) (r : RunsWith s ys) where
   settled_begins_with : Begins (before s.limit (history s)) (all_in s)
   unfolding history
   settled_begins_with =
@@ -126,10 +126,10 @@ module _ (s : scanner_t) (ys : List group_t) (r : RunsWith s ys) where
   unfolding history
   all_read e = sym (oldest_all (course_of s).read (s.made - 1) (ended_all (next (input_of s) s.limit) s.limit (course_of s).read (s.made - 1) (is_run_with s ys r) (inside_with s ys r) e))
 
-pub settled_begins : (s : scanner_t) → IsRunning s → Begins (before s.limit (history s)) (all_in s)
+pub settled_begins : (s : Scanner) → IsRunning s → Begins (before s.limit (history s)) (all_in s)
 settled_begins s r = settled_begins_with s (groups_in s) (runs_with s r)
 
-pub all_fit : (s : scanner_t) → IsRunning s → AllFit (course_of s).read
+pub all_fit : (s : Scanner) → IsRunning s → AllFit (course_of s).read
 all_fit s r = all_fit_with s (groups_in s) (runs_with s r)
 
 -- the token of the stream end is the last one
@@ -148,11 +148,11 @@ end_is_told e (i ∷ H) n q f l =
     last_true true b p = refl
     last_true false b p = rw p refl
 
-length_with : (s : scanner_t) (ys : List group_t) → RunsWith s ys → length (history s) ≡ s.made - 1
+length_with : (s : Scanner) (ys : List group_t) → RunsWith s ys → length (history s) ≡ s.made - 1
 unfolding history
 length_with s ys r = oldest_length (course_of s).read (s.made - 1) (inside_with s ys r)
 
-pub open_same : (s t : scanner_t) → Same s t → IsOpen s → IsOpen t
+pub open_same : (s t : Scanner) → Same s t → IsOpen s → IsOpen t
 open_same s t q o e =
     let k = course_as s t q.text q.refusal q.limit in
     let a = o (sym (ap (λ (c : Course). ended c.read) k) ∙ e) in
@@ -161,7 +161,7 @@ open_same s t q o e =
     omega arith
 
 -- a scanner for which no candidate is awaited, and the tokens that the groups of its queue hand out
-module _ (m : scanner_t) (zs : List group_t) (r : RunsWith m zs) (o : IsOpen m) (tokens : List yaml_token_t) (a : AllSettled m zs tokens) where
+module _ (m : Scanner) (zs : List group_t) (r : RunsWith m zs) (o : IsOpen m) (tokens : List yaml_token_t) (a : AllSettled m zs tokens) where
   abbrev pub made_all : List Token
   made_all = offline (history m)
 
@@ -236,7 +236,7 @@ module _ (m : scanner_t) (zs : List group_t) (r : RunsWith m zs) (o : IsOpen m) 
   pub cut_settled : (took : List yaml_token_t → Type 0) → IsCut took tokens → IsCutOff m took
   cut_settled took c = cut_of m took tokens given_begin c
 
-  module _ (t : scanner_t) (e : Empties m zs t tokens) where
+  module _ (t : Scanner) (e : Empties m zs t tokens) where
     course_then : course_of t ≡ course_of m
     course_then = course_as m t e.text e.refusal e.limit
 
@@ -294,7 +294,7 @@ module _ (m : scanner_t) (zs : List group_t) (r : RunsWith m zs) (o : IsOpen m) 
         ∙ sym given_are
 
     -- after another one of the same input, of which as many tokens were taken
-    pub emptied : (s : scanner_t) → Same s m → HasGiven s t tokens
+    pub emptied : (s : Scanner) → Same s m → HasGiven s t tokens
     emptied s q = record {
       runs = runs_then;
       still_open = open_after;
@@ -306,7 +306,7 @@ module _ (m : scanner_t) (zs : List group_t) (r : RunsWith m zs) (o : IsOpen m) 
     }
 
 -- A STEP
-module _ (s : scanner_t) (r : IsRunning s) (o : IsOpen s) (l : length (before s.limit (history s)) ≤ s.taken) where
+module _ (s : Scanner) (r : IsRunning s) (o : IsOpen s) (l : length (before s.limit (history s)) ≤ s.taken) where
   running : ended (history s) ≡ false
   running = still_running s r o l
 
@@ -314,7 +314,7 @@ module _ (s : scanner_t) (r : IsRunning s) (o : IsOpen s) (l : length (before s.
   can_step = record { holds = r.holds; running = running; small = r.small; few_steps = few_made s r; near = r.near }
 
   -- one was made, or two
-  module _ (m : scanner_t) (zs : List group_t) (b : Bool) (k : Makes b (history s) s m zs) where
+  module _ (m : Scanner) (zs : List group_t) (b : Bool) (k : Makes b (history s) s m zs) where
     laid_then : RunsWith m zs × (s.made < m.made) × Same s m
     laid_then = some_steps b s m zs r running k
 
@@ -332,9 +332,9 @@ module _ (s : scanner_t) (r : IsRunning s) (o : IsOpen s) (l : length (before s.
       given = taken_is s m q.text q.refusal q.limit s.taken q.taken ∙ sym (append-nil (told_taken s));
     }
 
-    handed : (sparing : Bool) (t : scanner_t) (tokens : List yaml_token_t) → HandsOut true sparing m zs t tokens → HasGiven s t tokens × (s.made < t.made)
+    handed : (sparing : Bool) (t : Scanner) (tokens : List yaml_token_t) → HandsOut true sparing m zs t tokens → HasGiven s t tokens × (s.made < t.made)
     handed sparing t tokens (inl w) = let p = laid_then in (
-      subst (λ (u : scanner_t). HasGiven s u tokens) (sym w.2) (subst (λ (z : List yaml_token_t). HasGiven s m z) (sym w.1) (queued_then w.3)),
+      subst (λ (u : Scanner). HasGiven s u tokens) (sym w.2) (subst (λ (z : List yaml_token_t). HasGiven s m z) (sym w.1) (queued_then w.3)),
       rw w.2 p.1,
     )
     handed sparing t tokens (inr w) = let p = laid_then in let e = w.1 in let z = e.made in let n = p.1 in (
@@ -353,8 +353,8 @@ module _ (s : scanner_t) (r : IsRunning s) (o : IsOpen s) (l : length (before s.
         }
 
   -- so it goes on, or stops
-  pub steps_to : (t : scanner_t) (took : List yaml_token_t → Type 0) (refuses : Type 0) (out : Result (Unit {0}) stop_t) → StepsTo (history s) s t true took refuses out
-      → MatchResult out (λ _. (tokens : List yaml_token_t) × HasGiven s t tokens × (s.made < t.made) × took tokens) (λ stop. StopsGiving s t.kept stop took refuses)
+  pub steps_to : (t : Scanner) (took : List yaml_token_t → Type 0) (refuses : Type 0) (out : Result (Unit {0}) stop_t) → StepsTo (history s) s t true took refuses out
+      → MatchResult out (λ _. (tokens : List yaml_token_t) × HasGiven s t tokens × (s.made < t.made) × took tokens) (λ stop. StopsGiving s t.refusal stop took refuses)
   steps_to t took refuses (Ok x) w = let p = handed w.1 w.2 w.3 w.4 w.3 t w.0 w.5 in (w.0, p.0, p.1, w.6)
   steps_to t took refuses (Err stop) (inl w) = inl (
     [],

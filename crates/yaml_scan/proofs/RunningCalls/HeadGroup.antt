@@ -19,7 +19,7 @@ use Rattle.yaml_scan.specs.Settled.{before, up_to}
 use Rattle.yaml_scan.specs.Token.{yaml_token_t}
 use Rattle.yaml_scan.specs.Words.{HasWords, HaveWords}
 use Rattle.yaml_scan.specs.declared.groups.group_t.{group_t}
-use Rattle.yaml_scan.specs.declared.scanner.scanner_t.{scanner_t}
+use Rattle.yaml_scan.specs.inside.Scanner.{Scanner}
 use Rattle.yaml_scan.specs.inside.Given.{all_in, told_all, told_taken}
 use Rattle.yaml_scan.specs.inside.Handed.{group_tokens, is_end, told_leads}
 use Rattle.yaml_scan.specs.inside.Queue.{IsQueue, leads}
@@ -56,13 +56,13 @@ words_back (x ∷ xs) ys w = words_back xs ys w.1
 
 -- WHAT IS SETTLED
 -- the group at the head is the first one of the queue
-pub ready_head : (s : scanner_t) (y z : group_t) (ys : List group_t) → IsReadyGroup s y → groups_in s ≡ z ∷ ys → IsReadyGroup s z
+pub ready_head : (s : Scanner) (y z : group_t) (ys : List group_t) → IsReadyGroup s y → groups_in s ≡ z ∷ ys → IsReadyGroup s z
 ready_head s y z ys g q =
     let w : y ∷ g.others ≡ z ∷ ys = sym g.head ∙ q in
     let e : y ≡ z = cc in
     record { others = ys; head = q; early = g.early; awaited = g.awaited; no_end = subst (λ (x : group_t). is_end (token_of x.token) ≡ false) e g.no_end }
 
-module _ (s : scanner_t) (r : IsRunning s) (y : group_t) (g : IsReadyGroup s y) where
+module _ (s : Scanner) (r : IsRunning s) (y : group_t) (g : IsReadyGroup s y) where
   abbrev H : List Laid
   H = history s
 
@@ -203,7 +203,7 @@ module _ (s : scanner_t) (r : IsRunning s) (y : group_t) (g : IsReadyGroup s y) 
       ∙ ap (λ (z : List Token). drop n z) (parts ∙ sym (append_assoc (leads y) (first ∷ []) rest))
       ∙ drop_at (leads y ++ first ∷ []) rest n (omega arith)
 
-  module _ (u : scanner_t) (T : u.text ≡ s.text) (J : u.refusal ≡ s.refusal) (N : u.near ≡ s.near) (L : u.limit ≡ s.limit) (V : u.layout.levels ≡ s.layout.levels) (O : u.slots ≡ s.slots) (A : u.allowed ≡ s.allowed) (R : u.reach ≡ s.reach) (M : u.made ≡ s.made)
+  module _ (u : Scanner) (T : u.text ≡ s.text) (J : u.refusal ≡ s.refusal) (N : u.near ≡ s.near) (L : u.limit ≡ s.limit) (V : u.layout.levels ≡ s.layout.levels) (O : u.slots ≡ s.slots) (A : u.allowed ≡ s.allowed) (R : u.reach ≡ s.reach) (M : u.made ≡ s.made)
       (E : u.layout.queue.early ≡ s.layout.queue.early) (F : u.layout.queue.front ≡ s.layout.queue.front) (D : u.layout.queue.done ≡ s.layout.queue.done + 1) (Y : groups_in u ≡ g.others) (K : u.taken ≡ s.taken + n) where
     course_u : course_of u ≡ course_of s
     course_u = course_as s u T J L

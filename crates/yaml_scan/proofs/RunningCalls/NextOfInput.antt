@@ -8,7 +8,7 @@ use Rattle.std.proofs.lemmas.Bool.{cases_eq, false≢true}
 use Rattle.yaml_text.specs.Fault.{Fault, memory_fault}
 use Rattle.yaml_text.specs.Decoding.{refusal_seen}
 use Rattle.yaml_scan.specs.declared.groups.group_t.{group_t}
-use Rattle.yaml_scan.specs.declared.scanner.scanner_t.{scanner_t}
+use Rattle.yaml_scan.specs.inside.Scanner.{Scanner}
 use Rattle.yaml_scan.specs.Source.{Offence}
 use Rattle.yaml_scan.specs.SourceOf.{source_of}
 use Rattle.yaml_scan.specs.Laid.{Laid, Lexeme}
@@ -19,7 +19,7 @@ use Rattle.yaml_scan.specs.Step.Outcome.{Reads, Faults}
 use Rattle.yaml_scan.specs.Cut.{IsRun, EndsWith}
 use Rattle.yaml_scan.specs.Near.{unless_near, is_near, place_of, starts_near}
 use Rattle.yaml_scan.specs.Settled.{before}
-use Rattle.yaml_scan.specs.inside.Scanning.{HoldsWith, AdvancesWith, AdvancesTwice, Ends, Makes, Needs, Offends, IsRunning, Steps, StepsOn, IsLast, groups_in, Same, IsNearFrom, IsNearOf, IsStep, Stays, counted, history}
+use Rattle.yaml_scan.specs.inside.Scanning.{HoldsWith, AdvancesWith, AdvancesTwice, Ends, Makes, Needs, Offends, IsRunning, Steps, StepsOn, IsLast, groups_in, Same, IsNearFrom, IsNearOf, IsStep, Halts, counted, history}
 use Rattle.yaml_scan.specs.inside.Scanning.{course_of, input_of}
 use Rattle.yaml_scan.proofs.Course.LongestCut.{IsHistory-from_run, run_short}
 use Rattle.yaml_scan.proofs.Course.CourseSteps.{next_orderly, steps_are}
@@ -44,7 +44,7 @@ module _ (cs : List ℕ) (near : ℕ) (o : Outcome) (w : place_of o ≤ length c
   now_near f N l = let e : is_near (source_of cs).size (place_of o) ≡ true = rw (size_of cs) ((N (place_of o) w).0 (omega (arith, I))) in rw e refl
 
 -- a problem that is not near, and one that is
-module _ (H : List Laid) (s : scanner_t) (f : Fault) (o : Offends H s f) (N : IsNearOf (refusal_seen s.refusal) s.text.chars s.near) where
+module _ (H : List Laid) (s : Scanner) (f : Fault) (o : Offends H s f) (N : IsNearOf (refusal_seen s.refusal) s.text.chars s.near) where
   place_in : o.offence.place ≤ length s.text.chars
   place_in = let a = o.problem.within in let z = size_of s.text.chars in omega arith
 
@@ -67,7 +67,7 @@ module _ (H : List Laid) (s : scanner_t) (f : Fault) (o : Offends H s f) (N : Is
       (record { fault = g; place = (source_of s.text.chars).size }, next_row ∙ (rw e (now_near s.text.chars s.near (Faults o.offence) place_in f.problem_mark.index index_in g n l)), refl)
 
 -- a lexeme that is near
-pub reads_near : (H : List Laid) (s : scanner_t) (x : Lexeme) → step (source_of s.text.chars) s.limit H ≡ Reads x → x.place ≤ length s.text.chars → (index : ℕ) → index ≡ ((source_of s.text.chars).mark x.place).index
+pub reads_near : (H : List Laid) (s : Scanner) (x : Lexeme) → step (source_of s.text.chars) s.limit H ≡ Reads x → x.place ≤ length s.text.chars → (index : ℕ) → index ≡ ((source_of s.text.chars).mark x.place).index
     → (g : Fault) → refusal_seen s.refusal ≡ Some g → IsNearOf (refusal_seen s.refusal) s.text.chars s.near → s.near ≤ index → Ends H s g
 unfolding next
 reads_near H s x e w index i g r N l =
@@ -75,20 +75,20 @@ reads_near H s x e w index i g r N l =
     (record { fault = g; place = (source_of s.text.chars).size }, ap (λ (o : Outcome). unless_near (source_of s.text.chars).size (refusal_seen s.refusal) o) e ∙ (rw r (now_near s.text.chars s.near (Reads x) w index i g n l)), refl)
 
 -- WHAT STAYS
-pub course_same : (s t : scanner_t) → Same s t → course_of t ≡ course_of s
+pub course_same : (s t : Scanner) → Same s t → course_of t ≡ course_of s
 unfolding course_of
 course_same s t e = rw (e.text, e.refusal, e.limit) refl
 
-pub history_same : (s t : scanner_t) → Same s t → t.made ≡ s.made → history t ≡ history s
+pub history_same : (s t : Scanner) → Same s t → t.made ≡ s.made → history t ≡ history s
 unfolding history
 history_same s t e m = rw (course_same s t e, m) refl
 
-pub same_trans : (s t u : scanner_t) → Same s t → Same t u → Same s u
+pub same_trans : (s t u : Scanner) → Same s t → Same t u → Same s u
 same_trans s t u a b = record { text = b.text ∙ a.text; refusal = b.refusal ∙ a.refusal; near = b.near ∙ a.near; limit = b.limit ∙ a.limit; taken = b.taken ∙ a.taken; done = b.done ∙ a.done }
 
 -- WITH OTHER GROUPS IN THE QUEUE
 -- a scanner that runs if it has these groups in its queue
-pub record RunsWith (s : scanner_t) (ys : List group_t) : Type 0 where
+pub record RunsWith (s : Scanner) (ys : List group_t) : Type 0 where
   pub small : length s.text.chars < 2 ^ 63
   pub near : IsNearOf (refusal_seen s.refusal) s.text.chars s.near
   pub holds : HoldsWith (history s) (s.made + 1) s ys
@@ -96,23 +96,23 @@ pub record RunsWith (s : scanner_t) (ys : List group_t) : Type 0 where
   pub start : (course_of s).begun ≡ true
   pub within : s.made ≤ length (course_of s).read + 1
 
-pub runs_with : (s : scanner_t) → IsRunning s → RunsWith s (groups_in s)
+pub runs_with : (s : Scanner) → IsRunning s → RunsWith s (groups_in s)
 runs_with s r = record { small = r.small; near = r.near; holds = r.holds; begun = r.begun; start = r.start; within = r.within }
 
-pub runs_on : (s : scanner_t) (ys : List group_t) → ys ≡ groups_in s → RunsWith s ys → IsRunning s
+pub runs_on : (s : Scanner) (ys : List group_t) → ys ≡ groups_in s → RunsWith s ys → IsRunning s
 runs_on s ys e r = record { small = r.small; near = r.near; holds = subst (λ (z : List group_t). HoldsWith (history s) (s.made + 1) s z) e r.holds; begun = r.begun; start = r.start; within = r.within }
 
 -- one step more
-pub record StepsWith (s t : scanner_t) (zs : List group_t) : Type 0 where
+pub record StepsWith (s t : Scanner) (zs : List group_t) : Type 0 where
   pub runs : RunsWith t zs
   pub made : t.made ≡ s.made + 1
   pub same : Same s t
 
-steps_of : (s t : scanner_t) → StepsWith s t (groups_in t) → Steps s t
+steps_of : (s t : Scanner) → StepsWith s t (groups_in t) → Steps s t
 steps_of s t k = record { runs = runs_on t (groups_in t) refl k.runs; made = k.made; same = k.same }
 
 -- THE COURSE
-module _ (s : scanner_t) (ys : List group_t) (r : RunsWith s ys) where
+module _ (s : Scanner) (ys : List group_t) (r : RunsWith s ys) where
   abbrev cut_of : Cut
   cut_of = cut_from (next (input_of s) s.limit) ((source_of s.text.chars).size + 1) s.limit []
 
@@ -177,7 +177,7 @@ module _ (s : scanner_t) (ys : List group_t) (r : RunsWith s ys) where
         record { made = omega arith; fault = fault_is ∙ ap (λ (p : Option Offence). option_map (λ o. o.fault) p) a.1 }
 
     -- the next lexeme
-    module _ (t : scanner_t) (zs : List group_t) (a : AdvancesWith (history s) s t zs) where
+    module _ (t : Scanner) (zs : List group_t) (a : AdvancesWith (history s) s t zs) where
       abbrev X : Outcome
       X = Reads a.lexeme
 
@@ -185,7 +185,7 @@ module _ (s : scanner_t) (ys : List group_t) (r : RunsWith s ys) where
       unfolding next
       next_step = ap (λ (o : Outcome). unless_near (source_of s.text.chars).size (refusal_seen s.refusal) o) a.step
 
-      module _ (u : scanner_t) (H : u.text ≡ t.text) (J : u.refusal ≡ t.refusal) (K : u.near ≡ t.near) (L : u.limit ≡ t.limit) (O : u.slots ≡ t.slots) (A : u.allowed ≡ t.allowed) (Q : u.layout ≡ t.layout) (R : u.reach ≡ t.reach) (T : u.taken ≡ t.taken) (M : u.made ≡ t.made + 1)
+      module _ (u : Scanner) (H : u.text ≡ t.text) (J : u.refusal ≡ t.refusal) (K : u.near ≡ t.near) (L : u.limit ≡ t.limit) (O : u.slots ≡ t.slots) (A : u.allowed ≡ t.allowed) (Q : u.layout ≡ t.layout) (R : u.reach ≡ t.reach) (T : u.taken ≡ t.taken) (M : u.made ≡ t.made + 1)
           (index : ℕ) (I : index ≡ t.reach.index) (F : index < s.near) where
         reads : next (input_of s) s.limit (history s) ≡ X
         reads = next_step ∙ not_near s.text.chars s.near X a.within index (I ∙ a.index) (refusal_seen s.refusal) r.near F
@@ -239,7 +239,7 @@ module _ (s : scanner_t) (ys : List group_t) (r : RunsWith s ys) where
     ends_last_with f w = subst (λ (g : Fault). IsLast s g) w.2 (last_is w.0 w.1)
 
 -- of a scanner that runs
-module _ (s : scanner_t) (r : IsRunning s) where
+module _ (s : Scanner) (r : IsRunning s) where
   pub is_run : IsRun (next (input_of s) s.limit) s.limit (course_of s).read
   is_run = is_run_with s (groups_in s) (runs_with s r)
 
@@ -256,8 +256,8 @@ module _ (s : scanner_t) (r : IsRunning s) where
   ends_last e = ends_last_with s (groups_in s) (runs_with s r) e
 
 -- two steps at once, neither of which is near
-module _ (s : scanner_t) (ys : List group_t) (r : RunsWith s ys) (e : ended (history s) ≡ false) (t : scanner_t) (zs : List group_t) (a : AdvancesTwice (history s) s t zs) (far : t.reach.index < s.near) where
-  abbrev between : scanner_t
+module _ (s : Scanner) (ys : List group_t) (r : RunsWith s ys) (e : ended (history s) ≡ false) (t : Scanner) (zs : List group_t) (a : AdvancesTwice (history s) s t zs) (far : t.reach.index < s.near) where
+  abbrev between : Scanner
   between = counted a.between
 
   once : StepsWith s between a.then_queued
@@ -272,7 +272,7 @@ module _ (s : scanner_t) (ys : List group_t) (r : RunsWith s ys) (e : ended (his
   then_far : t.reach.index < between.near
   then_far = let q = once.same in let n = q.near in omega arith
 
-  twice : (u : scanner_t) → u ≡ counted t → StepsWith between u zs
+  twice : (u : Scanner) → u ≡ counted t → StepsWith between u zs
   twice u q = rw q (stepped_with between a.then_queued once.runs (rw history_then a.running) t zs then_advances (counted t) refl refl refl refl refl refl refl refl refl refl t.reach.index refl then_far)
 
   middle_is : oldest s.made (course_of s).read ≡ laid s.limit (history s) a.first.lexeme ∷ history s
@@ -285,14 +285,14 @@ module _ (s : scanner_t) (ys : List group_t) (r : RunsWith s ys) (e : ended (his
   both_needed : Needs true (history s) s t zs a → length (before s.limit (oldest s.made (course_of s).read)) ≤ s.taken
   both_needed n = rw middle_is (n refl)
 
-one_step : (s u : scanner_t) (ys : List group_t) → RunsWith s ys → ended (history s) ≡ false → (t : scanner_t) (zs : List group_t) → AdvancesWith (history s) s t zs → t.reach.index < s.near → u ≡ counted t → StepsWith s u zs
+one_step : (s u : Scanner) (ys : List group_t) → RunsWith s ys → ended (history s) ≡ false → (t : Scanner) (zs : List group_t) → AdvancesWith (history s) s t zs → t.reach.index < s.near → u ≡ counted t → StepsWith s u zs
 one_step s u ys r e t zs a far q = rw q (stepped_with s ys r e t zs a (counted t) refl refl refl refl refl refl refl refl refl refl t.reach.index refl far)
 
 -- one step was made, or two, whether the next token needs both or not
-pub some_steps : (sparing : Bool) (s u : scanner_t) (zs : List group_t) → IsRunning s → ended (history s) ≡ false → Makes sparing (history s) s u zs → RunsWith u zs × (s.made < u.made) × Same s u
+pub some_steps : (sparing : Bool) (s u : Scanner) (zs : List group_t) → IsRunning s → ended (history s) ≡ false → Makes sparing (history s) s u zs → RunsWith u zs × (s.made < u.made) × Same s u
 some_steps sparing s u zs r e (inl m) = let k = one_step s u (groups_in s) (runs_with s r) e m.0 zs m.1 m.2 m.3 in let n = k.made in (k.runs, omega arith, k.same)
 some_steps sparing s u zs r e (inr m) =
-    let t : scanner_t = m.0 in
+    let t : Scanner = m.0 in
     let a = m.1.0.0 in
     let j = once s (groups_in s) (runs_with s r) e (counted t) zs a m.1.1 in
     let k = twice s (groups_in s) (runs_with s r) e (counted t) zs a m.1.1 u m.2 in
@@ -301,10 +301,10 @@ some_steps sparing s u zs r e (inr m) =
     (k.runs, omega arith, same_trans s (counted a.between) u j.same k.same)
 
 -- a step of the scanner is the next one of its input
-pub steps_on : (s u : scanner_t) → IsRunning s → ended (history s) ≡ false → Makes true (history s) s u (groups_in u) → StepsOn s u
+pub steps_on : (s u : Scanner) → IsRunning s → ended (history s) ≡ false → Makes true (history s) s u (groups_in u) → StepsOn s u
 steps_on s u r e (inl m) = inl (steps_of s u (one_step s u (groups_in s) (runs_with s r) e m.0 (groups_in u) m.1 m.2 m.3))
 steps_on s u r e (inr m) =
-    let t : scanner_t = m.0 in
+    let t : Scanner = m.0 in
     let a = m.1.0.0 in
     let j = once s (groups_in s) (runs_with s r) e (counted t) (groups_in u) a m.1.1 in
     let k = twice s (groups_in s) (runs_with s r) e (counted t) (groups_in u) a m.1.1 u m.2 in
@@ -318,23 +318,23 @@ steps_on s u r e (inr m) =
     })
 
 -- or the last one of its input
-pub step_on : (s t : scanner_t) (o : Result (Unit {0}) stop_t) → IsRunning s → ended (history s) ≡ false → IsStep (history s) s t o
-    → MatchResult o (λ _. StepsOn s t) (λ stop. ((fault_at stop t.kept ≡ memory_fault) ⊎ IsLast s (fault_at stop t.kept)) × Stays s t)
+pub step_on : (s t : Scanner) (o : Result (Unit {0}) stop_t) → IsRunning s → ended (history s) ≡ false → IsStep (history s) s t o
+    → MatchResult o (λ _. StepsOn s t) (λ stop. ((fault_at stop t.refusal ≡ memory_fault) ⊎ IsLast s (fault_at stop t.refusal)) × Halts s t)
 step_on s t (Ok x) r e w = steps_on s t r e w
-step_on s t (Err stop) r e w = (elim w.0 [ inl m ↦ inl m | inr f ↦ inr (ends_last s r e (fault_at stop t.kept) f) ], w.1)
+step_on s t (Err stop) r e w = (elim w.0 [ inl m ↦ inl m | inr f ↦ inr (ends_last s r e (fault_at stop t.refusal) f) ], w.1)
 
 -- FEW TOKENS, AND FEW STEPS
-pub few_made : (s : scanner_t) → IsRunning s → s.made + 2 < 2 ^ 64
+pub few_made : (s : Scanner) → IsRunning s → s.made + 2 < 2 ^ 64
 few_made s r = let a = r.within in let b = read_short s r in let c = r.small in omega arith
 
-pub history_length : (s : scanner_t) → IsRunning s → length (history s) ≡ s.made - 1
+pub history_length : (s : Scanner) → IsRunning s → length (history s) ≡ s.made - 1
 unfolding history
 history_length s r = oldest_length (course_of s).read (s.made - 1) (inside s r)
 
 few_are_few : (t n : ℕ) → t ≤ 4 * (n + 3) → n < 9223372036854775808 → t + 4 ≤ 2 ^ 100
 few_are_few t n l m = omega arith
 
-pub few_settled : (s : scanner_t) → IsRunning s → length (before s.limit (history s)) + 4 ≤ 2 ^ 100
+pub few_settled : (s : Scanner) → IsRunning s → length (before s.limit (history s)) + 4 ≤ 2 ^ 100
 few_settled s r =
     let b = length-begins _ _ (before-offline s.limit (history s) r.holds.is_history) in
     let c = four_tokens_a_step s.limit (history s) r.holds.is_history in
@@ -344,5 +344,5 @@ few_settled s r =
     let g = r.small in
     few_are_few (length (before s.limit (history s))) (length s.text.chars) (omega arith) (omega arith)
 
-pub few_taken : (s : scanner_t) → IsRunning s → s.taken + 4 ≤ 2 ^ 100
+pub few_taken : (s : Scanner) → IsRunning s → s.taken + 4 ≤ 2 ^ 100
 few_taken s r = let a = r.holds.taken in let b = few_settled s r in omega arith

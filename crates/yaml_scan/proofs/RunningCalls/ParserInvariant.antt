@@ -3,7 +3,7 @@ use Rattle.std.proofs.Common.{◌≡◌, ℕ, ◌+◌, ◌-◌, ◌≤◌, ◌<�
 use Rattle.std.specs.Prelude.{◌⊎◌}
 use Rattle.yaml_text.specs.declared.types.yaml_encoding_t.{yaml_encoding_t}
 use Rattle.yaml_scan.specs.Course.{Course}
-use Rattle.yaml_scan.specs.declared.scanner.scanner_t.{scanner_t}
+use Rattle.yaml_scan.specs.inside.Scanner.{Scanner}
 use Rattle.yaml_scan.specs.Token.{yaml_token_t}
 use Rattle.yaml_scan.specs.Laid.{Laid, reach}
 use Rattle.yaml_scan.specs.Order.{IsHistory}
@@ -25,7 +25,7 @@ pub record Keeps (limit : ℕ) (H : List Laid) (n t d : ℕ) : Type 0 where
   pub queued : waiting_at H n t + d ≡ n
   pub few : waiting_at H n t ≤ limit + 1
 
-module _ (setting : yaml_encoding_t) (input : List ℕ) (s : scanner_t) where
+module _ (setting : yaml_encoding_t) (input : List ℕ) (s : Scanner) where
   abbrev H : List Laid
   H = (course_in s.limit setting input).read
 
@@ -50,14 +50,14 @@ module _ (setting : yaml_encoding_t) (input : List ℕ) (s : scanner_t) where
   unfolding history
   reach_in i = i.runs.holds.reach ∙ ap (λ (c : Course). reach (first_steps s.made c.read)) (course_is setting input s i.reads)
 
-  pub reach_stopped : (t : scanner_t) → IsStopped setting input s t → t.reach ≡ reach (first_steps t.made (course_in t.limit setting input).read)
+  pub reach_stopped : (t : Scanner) → IsStopped setting input s t → t.reach ≡ reach (first_steps t.made (course_in t.limit setting input).read)
   reach_stopped t k = k.reach ∙ ap (λ (n : ℕ). reach (first_steps t.made (course_in n setting input).read)) (sym k.limit)
 
   pub stands_ready : IsReady setting input s → Stands
   stands_ready (inl n) = inl (n.made, n.taken)
   stands_ready (inr r) = stands_in r.0
 
-  module _ (t : scanner_t) (l : t.limit ≡ s.limit) (e : t.taken ≡ s.taken) (a : s.made ≤ t.made) (b : t.made ≤ pace s.limit H s.taken s.made) where
+  module _ (t : Scanner) (l : t.limit ≡ s.limit) (e : t.taken ≡ s.taken) (a : s.made ≤ t.made) (b : t.made ≤ pace s.limit H s.taken s.made) where
     made_within : s.made ≤ length H + 1 → t.made ≤ length H + 1
     unfolding pace
     made_within m = let q = at_most s.limit H s.taken in omega arith
@@ -74,18 +74,18 @@ module _ (setting : yaml_encoding_t) (input : List ℕ) (s : scanner_t) where
         let r : Keeps s.limit H t.made s.taken d = record { queued = waits_on st d k.queued; few = few_wait_on s.limit H read_is_history s.made t.made s.taken a b k.few } in
         subst (λ (n : ℕ). Keeps t.limit (course_in t.limit setting input).read t.made n d) (sym e) (subst (λ (n : ℕ). Keeps n (course_in n setting input).read t.made s.taken d) (sym l) r)
 
-  least : (t : scanner_t) → t.made ≡ pace s.limit H s.taken s.made → s.made ≤ t.made
+  least : (t : Scanner) → t.made ≡ pace s.limit H s.taken s.made → s.made ≤ t.made
   unfolding pace
   least t e = omega arith
 
-  pub keeps_settled : (t : scanner_t) → IsSettled setting input s t → Stands → (d : ℕ) → Keeps s.limit H s.made s.taken d → Keeps t.limit (course_in t.limit setting input).read t.made t.taken d
+  pub keeps_settled : (t : Scanner) → IsSettled setting input s t → Stands → (d : ℕ) → Keeps s.limit H s.made s.taken d → Keeps t.limit (course_in t.limit setting input).read t.made t.taken d
   keeps_settled t k = let m = k.made in keeps_on t k.limit k.taken (least t k.made) (omega arith)
 
-  pub keeps_stopped : (t : scanner_t) → IsStopped setting input s t → Stands → (d : ℕ) → Keeps s.limit H s.made s.taken d → Keeps t.limit (course_in t.limit setting input).read t.made t.taken d
+  pub keeps_stopped : (t : Scanner) → IsStopped setting input s t → Stands → (d : ℕ) → Keeps s.limit H s.made s.taken d → Keeps t.limit (course_in t.limit setting input).read t.made t.taken d
   keeps_stopped t k = keeps_on t k.limit k.taken k.least k.most
 
   -- a token is taken
-  pub keeps_taken : (u : scanner_t) (x : yaml_token_t) → Pops s u x → IsIn setting input u → (d n : ℕ) → Keeps s.limit H s.made s.taken n → queued (history u) u.taken (history u) + d ≡ u.made → Keeps u.limit (course_in u.limit setting input).read u.made u.taken d
+  pub keeps_taken : (u : Scanner) (x : yaml_token_t) → Pops s u x → IsIn setting input u → (d n : ℕ) → Keeps s.limit H s.made s.taken n → queued (history u) u.taken (history u) + d ≡ u.made → Keeps u.limit (course_in u.limit setting input).read u.made u.taken d
   unfolding history
   keeps_taken u x p i d n k q =
       let c = course_is setting input u i.reads in
@@ -98,7 +98,7 @@ module _ (setting : yaml_encoding_t) (input : List ℕ) (s : scanner_t) where
       record { queued = omega arith; few = omega arith }
 
   -- tokens were given to a sink
-  pub keeps_sent : (u : scanner_t) (tokens : List yaml_token_t) → HasSent setting input s u tokens → (n : ℕ) → Keeps s.limit H s.made s.taken n → queued (history u) u.taken (history u) + u.layout.queue.done ≡ u.made
+  pub keeps_sent : (u : Scanner) (tokens : List yaml_token_t) → HasSent setting input s u tokens → (n : ℕ) → Keeps s.limit H s.made s.taken n → queued (history u) u.taken (history u) + u.layout.queue.done ≡ u.made
       → Keeps u.limit (course_in u.limit setting input).read u.made u.taken u.layout.queue.done
   unfolding history
   keeps_sent u tokens k n w q =

@@ -6,7 +6,7 @@ use Rattle.yaml_text.specs.Fault.{memory_fault}
 use Rattle.yaml_scan.specs.Course.{oldest, ended, Course}
 use Rattle.yaml_scan.specs.declared.fault.stop_t.{stop_t}
 use Rattle.yaml_scan.specs.declared.groups.group_t.{group_t}
-use Rattle.yaml_scan.specs.declared.scanner.scanner_t.{scanner_t}
+use Rattle.yaml_scan.specs.inside.Scanner.{Scanner}
 use Rattle.yaml_scan.specs.Begins.{Begins}
 use Rattle.yaml_scan.specs.Groups.{Token, offline}
 use Rattle.yaml_scan.specs.Laid.{Laid}
@@ -45,7 +45,7 @@ more_settled limit Y P h g y w = elim (cases_lt (length (before limit P)) (lengt
 ]
 
 -- ONE MORE STEP, OR TWO
-module _ (a s : scanner_t) (g : Goes a s) (o : IsOpen a) (l : length (before s.limit (history s)) ≤ s.taken) where
+module _ (a s : Scanner) (g : Goes a s) (o : IsOpen a) (l : length (before s.limit (history s)) ≤ s.taken) where
   open_s : IsOpen s
   open_s = open_too a s g.runs g.same o
 
@@ -56,13 +56,13 @@ module _ (a s : scanner_t) (g : Goes a s) (o : IsOpen a) (l : length (before s.l
   can = given.can_step s g.runs open_s l
 
   -- its tokens are queued
-  pub queued : (t : scanner_t) → Makes true (history s) s t (groups_in t) → Goes a t
+  pub queued : (t : Scanner) → Makes true (history s) s t (groups_in t) → Goes a t
   queued t k = goes_on a s t g.runs g.same g.least l (steps_on s t g.runs running k)
 
-  pub queued_more : (t : scanner_t) → Makes true (history s) s t (groups_in t) → s.made < t.made
+  pub queued_more : (t : Scanner) → Makes true (history s) s t (groups_in t) → s.made < t.made
   queued_more t k = let p = some_steps true s t (groups_in t) g.runs running k in p.1
 
-  module _ (m : scanner_t) (zs : List group_t) (b : Bool) (k : Makes b (history s) s m zs) (t : scanner_t) (tokens : List yaml_token_t) (e : Empties m zs t tokens) where
+  module _ (m : Scanner) (zs : List group_t) (b : Bool) (k : Makes b (history s) s m zs) (t : Scanner) (tokens : List yaml_token_t) (e : Empties m zs t tokens) where
     p : RunsWith m zs × (s.made < m.made) × Same s m
     p = some_steps b s m zs g.runs running k
 
@@ -176,24 +176,24 @@ module _ (a s : scanner_t) (g : Goes a s) (o : IsOpen a) (l : length (before s.l
         }
 
   -- it stopped
-  pub stopped : (t : scanner_t) (stop : stop_t) → Refuses (history s) s t stop → ((fault_at stop t.kept ≡ memory_fault) ⊎ Fails a t (fault_at stop t.kept)) × Stops a t
+  pub stopped : (t : Scanner) (stop : stop_t) → Refuses (history s) s t stop → ((fault_at stop t.refusal ≡ memory_fault) ⊎ Fails a t (fault_at stop t.refusal)) × Stops a t
   stopped t stop w = (
     elim w.0 [ inl m ↦ inl m | inr f ↦ inr (fails a s g.runs g.same t _ w.1 (ends_last s g.runs running _ f) l) ],
     stops a s g.runs g.same t w.1 g.least g.most l,
   )
 
   -- a step goes on, or gives tokens to the sink
-  pub goes : (t : scanner_t) (took : List yaml_token_t → Type 0) (refuses : Type 0) (x : Unit {0}) → StepsTo (history s) s t true took refuses (Ok x)
+  pub goes : (t : Scanner) (took : List yaml_token_t → Type 0) (refuses : Type 0) (x : Unit {0}) → StepsTo (history s) s t true took refuses (Ok x)
       → (Goes a t × (s.made < t.made) × took []) ⊎ ((tokens : List yaml_token_t) × Sends a t tokens × took tokens × (s.layout.queue.done < t.layout.queue.done))
   goes t took refuses x w = elim w.5 [
-    | inl e ↦ (let m : Makes true (history s) s t (groups_in t) = subst (λ (z : scanner_t). Makes true (history s) s z (groups_in z)) (sym e.2)
+    | inl e ↦ (let m : Makes true (history s) s t (groups_in t) = subst (λ (z : Scanner). Makes true (history s) s z (groups_in z)) (sym e.2)
         (subst (λ (zs : List group_t). Makes true (history s) s w.1 zs) e.3 (subst (λ (b : Bool). Makes b (history s) s w.1 w.2) e.0 w.4)) in
         inl (queued t m, queued_more t m, subst took e.1 w.6))
     | inr e ↦ inr (w.0, sent w.1 w.2 w.3 w.4 t w.0 e.1, w.6, more_done w.1 w.2 w.3 w.4 t w.0 e.1)
   ]
 
   -- or stops
-  pub halts : (t : scanner_t) (took : List yaml_token_t → Type 0) (refuses : Type 0) (stop : stop_t) → StepsTo (history s) s t true took refuses (Err stop)
-      → (((fault_at stop t.kept ≡ memory_fault) ⊎ Fails a t (fault_at stop t.kept)) × Stops a t × took []) ⊎ refuses
+  pub halts : (t : Scanner) (took : List yaml_token_t → Type 0) (refuses : Type 0) (stop : stop_t) → StepsTo (history s) s t true took refuses (Err stop)
+      → (((fault_at stop t.refusal ≡ memory_fault) ⊎ Fails a t (fault_at stop t.refusal)) × Stops a t × took []) ⊎ refuses
   halts t took refuses stop (inl w) = let q = stopped t stop w.0 in inl (q.0, q.1, w.1)
   halts t took refuses stop (inr w) = inr w.2

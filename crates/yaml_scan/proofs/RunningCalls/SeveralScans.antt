@@ -7,7 +7,7 @@ use Rattle.std.proofs.lemmas.List.{append_cancel_left, length-map, length-take-l
 use Rattle.std.proofs.lemmas.List.Folds.{list_any-append}
 use Rattle.yaml_text.specs.declared.types.yaml_encoding_t.{yaml_encoding_t}
 use Rattle.yaml_scan.specs.Course.{oldest, Course, Input, course}
-use Rattle.yaml_scan.specs.declared.scanner.scanner_t.{scanner_t}
+use Rattle.yaml_scan.specs.inside.Scanner.{Scanner}
 use Rattle.yaml_scan.specs.Groups.{Token, handed_out}
 use Rattle.yaml_scan.specs.Decoded.{decoded_input}
 use Rattle.yaml_scan.specs.Order.{IsHistory}
@@ -117,7 +117,7 @@ take-more (suc n) m [] = let e : suc n + m ≡ suc (n + m) = omega arith in rw e
 take-more (suc n) m (x ∷ xs) = let e : suc n + m ≡ suc (n + m) = omega arith in rw e (ap (λ (z : List Token). x ∷ z) (take-more n m xs))
 
 -- A SCANNER THAT HAS GIVEN TOKENS TO A SINK
-module _ (limit : ℕ) (setting : yaml_encoding_t) (input : List ℕ) (s t : scanner_t) (tokens : List yaml_token_t) (k : HasSent setting input s t tokens) (e : s.limit ≡ limit) where
+module _ (limit : ℕ) (setting : yaml_encoding_t) (input : List ℕ) (s t : Scanner) (tokens : List yaml_token_t) (k : HasSent setting input s t tokens) (e : s.limit ≡ limit) where
   abbrev I : Input
   I = decoded_input setting input
 

@@ -3,19 +3,19 @@ use Rattle.std.proofs.Common.{◌≡◌, ℕ, ◌+◌, ◌-◌, ◌≤◌, ◌<�
 use Rattle.std.proofs.lemmas.Bool.{cases_Bool, cases_eq, false≢true}
 use Rattle.yaml_text.specs.Fault.{Fault}
 use Rattle.yaml_scan.specs.Course.{ended, oldest, Course, next}
-use Rattle.yaml_scan.specs.declared.scanner.scanner_t.{scanner_t}
+use Rattle.yaml_scan.specs.inside.Scanner.{Scanner}
 use Rattle.yaml_scan.specs.Laid.{Laid, reach}
 use Rattle.yaml_scan.specs.Settled.{before}
 use Rattle.yaml_scan.specs.Groups.{offline}
 use Rattle.yaml_scan.specs.Step.{Outcome}
 use Rattle.yaml_scan.specs.Cut.{IsRun}
-use Rattle.yaml_scan.specs.Settled.{steps_for, pace}
-use Rattle.yaml_scan.specs.inside.Scanning.{IsRunning, Steps, StepsOn, StepsTwice, IsLast, Stays, Same, IsOpen, Fails, Stops, history, course_of}
+use Rattle.yaml_scan.specs.Settled.{first_steps, steps_for, pace}
+use Rattle.yaml_scan.specs.inside.Scanning.{IsRunning, Steps, StepsOn, StepsTwice, IsLast, Same, IsOpen, Fails, Halts, Stops, history, course_of}
 use Rattle.yaml_scan.specs.inside.Scanning.{input_of}
 use Rattle.yaml_scan.proofs.TokenList.OneLexemeMore.{all_is_handed_out}
 use Rattle.yaml_scan.proofs.Course.NextStep.{oldest_all, oldest_tail}
 use Rattle.yaml_scan.proofs.Course.StepsNeeded.{enough, needs_more}
-use Rattle.yaml_scan.proofs.RunningCalls.NextOfInput.{is_run, read_history, inside, course_same, history_same, same_trans}
+use Rattle.yaml_scan.proofs.RunningCalls.NextOfInput.{is_run, read_history, inside, course_same, same_trans}
 
 -- only the whole list has ended
 pub ended_all : (p : List Laid → Outcome) (limit : ℕ) (H : List Laid) (k : ℕ) → IsRun p limit H → k ≤ length H → ended (oldest k H) ≡ true → k ≡ length H
@@ -28,7 +28,7 @@ ended_all p limit (i ∷ H) k r l e = elim (cases_eq k (length (i ∷ H))) [
       let w : ended H ≡ true = subst (λ (X : List Laid). ended X ≡ true) (oldest_all H k n) u in absurd (false≢true (sym r.3 ∙ w)))
 ]
 
-module _ (s : scanner_t) (r : IsRunning s) where
+module _ (s : Scanner) (r : IsRunning s) where
   -- while the head is not settled, there is a step to make
   pub still_running : IsOpen s → length (before s.limit (history s)) ≤ s.taken → ended (history s) ≡ false
   unfolding history
@@ -48,7 +48,7 @@ module _ (s : scanner_t) (r : IsRunning s) where
   unfolding history
   enough_made l = let e = enough s.limit (course_of s).read s.taken (s.made - 1) (inside s r) l in let b = r.begun in omega arith
 
-  more_needed : (t : scanner_t) → Steps s t → length (before s.limit (history s)) ≤ s.taken → s.made + 1 ≤ steps_for s.limit (course_of s).read s.taken
+  more_needed : (t : Scanner) → Steps s t → length (before s.limit (history s)) ≤ s.taken → s.made + 1 ≤ steps_for s.limit (course_of s).read s.taken
   unfolding history
   more_needed t u l =
       let w = u.runs.within in
@@ -57,7 +57,7 @@ module _ (s : scanner_t) (r : IsRunning s) where
       let b = r.begun in
       let m = needs_more s.limit (course_of s).read s.taken (s.made - 1) (read_history s r) (omega arith) l in omega arith
 
-module _ (s t : scanner_t) (r : IsRunning t) (S : Same s t) where
+module _ (s t : Scanner) (r : IsRunning t) (S : Same s t) where
   course_is : course_of t ≡ course_of s
   course_is = course_same s t S
 
@@ -67,7 +67,7 @@ module _ (s t : scanner_t) (r : IsRunning t) (S : Same s t) where
   pub open_too : IsOpen s → IsOpen t
   open_too o = λ e. let f : ended (course_of s).read ≡ true = sym (ap (λ (c : Course). ended c.read) course_is) ∙ e in let a = o f in let b = ap (λ (c : Course). length (offline c.read)) course_is in let d = S.taken in omega arith
 
-  pub fails : (u : scanner_t) (f : Fault) → Stays t u → IsLast t f → length (before t.limit (history t)) ≤ t.taken → Fails s u f
+  pub fails : (u : Scanner) (f : Fault) → Halts t u → IsLast t f → length (before t.limit (history t)) ≤ t.taken → Fails s u f
   unfolding history
   fails u f z i l =
       let k : t.made - 1 ≡ length (course_of t).read = (let m = i.made in omega arith) in
@@ -81,11 +81,11 @@ module _ (s t : scanner_t) (r : IsRunning t) (S : Same s t) where
   unfolding pace
   made_is a b l = let e = enough_made t r l in let c = steps_is in omega arith
 
-  pub one_more : (u : scanner_t) → Steps t u → length (before t.limit (history t)) ≤ t.taken → u.made ≤ pace s.limit (course_of s).read s.taken s.made
+  pub one_more : (u : Scanner) → Steps t u → length (before t.limit (history t)) ≤ t.taken → u.made ≤ pace s.limit (course_of s).read s.taken s.made
   unfolding pace
   one_more u k l = let e = more_needed t r u k l in let c = steps_is in let m = k.made in omega arith
 
-  pub two_more : (u : scanner_t) → StepsTwice t u → u.made ≤ pace s.limit (course_of s).read s.taken s.made
+  pub two_more : (u : Scanner) → StepsTwice t u → u.made ≤ pace s.limit (course_of s).read s.taken s.made
   unfolding pace
   two_more u k =
       let w = k.runs.within in
@@ -95,28 +95,34 @@ module _ (s t : scanner_t) (r : IsRunning t) (S : Same s t) where
       let d = steps_is in
       omega arith
 
-  pub stops : (u : scanner_t) → Stays t u → s.made ≤ t.made → t.made ≤ pace s.limit (course_of s).read s.taken s.made → length (before t.limit (history t)) ≤ t.taken → Stops s u
-  stops u k a b l = let h = history_same t u k.same k.made in record {
-    same = same_trans s t u S k.same;
-    least = (let m = k.made in omega arith);
-    most = (let m = k.made in omega arith);
-    unsettled = (let m = ap (λ (n : ℕ). length (before n (history u))) (let e = k.same in e.limit) in let n = ap (λ (X : List Laid). length (before t.limit X)) h in let e = k.same in let v = e.taken in omega arith);
-    reach = k.reach ∙ r.holds.reach ∙ ap reach (sym h);
-  }
+  pub stops : (u : Scanner) → Halts t u → s.made ≤ t.made → t.made ≤ pace s.limit (course_of s).read s.taken s.made → length (before t.limit (history t)) ≤ t.taken → Stops s u
+  unfolding history
+  stops u k a b l =
+      let h : first_steps u.made (course_of s).read ≡ first_steps t.made (course_of t).read =
+      ap (λ (n : ℕ). first_steps n (course_of s).read) k.made ∙ ap (λ (c : Course). first_steps t.made c.read) (sym course_is) in
+      record {
+        limit = k.limit ∙ S.limit;
+        taken = k.taken ∙ S.taken;
+        done = k.done ∙ S.done;
+        least = (let m = k.made in omega arith);
+        most = (let m = k.made in omega arith);
+        unsettled = (let m = ap (λ (n : ℕ). length (before n (first_steps t.made (course_of t).read))) S.limit in let n = ap (λ (X : List Laid). length (before s.limit X)) h in let v = S.taken in omega arith);
+        reach = k.reach ∙ r.holds.reach ∙ ap reach (sym h);
+      }
 
-pub least_pace : (s : scanner_t) → s.made ≤ pace s.limit (course_of s).read s.taken s.made
+pub least_pace : (s : Scanner) → s.made ≤ pace s.limit (course_of s).read s.taken s.made
 unfolding pace
 least_pace s = omega arith
 
 -- t is s after steps that its next token needs
-pub record Goes (s t : scanner_t) : Type 0 where
+pub record Goes (s t : Scanner) : Type 0 where
   pub runs : IsRunning t
   pub same : Same s t
   pub least : s.made ≤ t.made
   pub most : t.made ≤ pace s.limit (course_of s).read s.taken s.made
 
 -- after one step, or two that were needed
-pub goes_on : (s t u : scanner_t) → IsRunning t → Same s t → s.made ≤ t.made → length (before t.limit (history t)) ≤ t.taken → StepsOn t u → Goes s u
+pub goes_on : (s t u : Scanner) → IsRunning t → Same s t → s.made ≤ t.made → length (before t.limit (history t)) ≤ t.taken → StepsOn t u → Goes s u
 goes_on s t u r S l n (inl k) = record {
   runs = k.runs;
   same = same_trans s t u S k.same;
@@ -130,6 +136,6 @@ goes_on s t u r S l n (inr k) = record {
   most = two_more s t r S u k;
 }
 
-pub fewer_left : (t u : scanner_t) → IsRunning t → StepsOn t u → length (course_of u).read + 2 - u.made < length (course_of t).read + 2 - t.made
+pub fewer_left : (t u : Scanner) → IsRunning t → StepsOn t u → length (course_of u).read + 2 - u.made < length (course_of t).read + 2 - t.made
 fewer_left t u r (inl k) = let m = k.made in let e = ap (λ (x : Course). length x.read) (course_same t u k.same) in let w = r.within in omega arith
 fewer_left t u r (inr k) = let m = k.made in let e = ap (λ (x : Course). length x.read) (course_same t u k.same) in let w = r.within in omega arith

@@ -1,7 +1,7 @@
 -- The head of the queue is the next token of the list, and taking it leaves the rest.
 use Rattle.std.proofs.Common.{◌≡◌, ℕ, zero, suc, ◌+◌, ◌-◌, ◌<◌, ◌^◌, List, [], ◌∷◌, ◌++◌, length, drop, slice_get, Some, refl, ap, sym, ◌∙◌, subst, arith}
 use Rattle.yaml_scan.specs.Course.{Course}
-use Rattle.yaml_scan.specs.declared.scanner.scanner_t.{scanner_t}
+use Rattle.yaml_scan.specs.inside.Scanner.{Scanner}
 use Rattle.yaml_scan.specs.Token.{yaml_token_t}
 use Rattle.yaml_scan.specs.Laid.{Laid}
 use Rattle.yaml_scan.specs.Order.{IsHistory}
@@ -38,7 +38,7 @@ head_same limit W P Y t e h g l =
     let y : slice_get (before limit (Y ++ P)) t ≡ slice_get (before limit P) t = rw a.is (get-append (before limit P) a.rest t l) in
     x ∙ sym y ∙ ap (λ (X : List Laid). slice_get (before limit X) t) (sym e)
 
-module _ (s : scanner_t) (r : IsRunning s) (l : s.taken < length (before s.limit (history s))) where
+module _ (s : Scanner) (r : IsRunning s) (l : s.taken < length (before s.limit (history s))) where
   pub groups_some : 0 < length s.layout.queue.groups.items
   groups_some =
       let b = length-begins _ _ (before-offline s.limit (history s) r.holds.is_history) in
@@ -55,7 +55,7 @@ module _ (s : scanner_t) (r : IsRunning s) (l : s.taken < length (before s.limit
       let z = split (course_of s).read (s.made - 1) (inside s r) in
       sym (head_same s.limit (course_of s).read (history s) z.0 s.taken z.1 (read_history s r) r.holds.is_history l) ∙ (get-drop (offline (history s)) s.taken first rest e).0
 
-  module _ (u : scanner_t) (x : yaml_token_t) (K : Takes s.text.encoding s.layout.queue u.layout.queue x (drop s.taken (offline (history s)))) where
+  module _ (u : Scanner) (x : yaml_token_t) (K : Takes s.text.encoding s.layout.queue u.layout.queue x (drop s.taken (offline (history s)))) where
     parts : (slice_get (offline (history s)) s.taken ≡ Some K.first) × (drop (s.taken + 1) (offline (history s)) ≡ K.rest)
     parts = get-drop (offline (history s)) s.taken K.first K.rest K.is
 
@@ -110,5 +110,5 @@ module _ (s : scanner_t) (r : IsRunning s) (l : s.taken < length (before s.limit
       }
 
 -- the same of a scanner that has taken it from its queue
-pub next_popped : (s : scanner_t) → IsRunning s → s.taken < length (before s.limit (history s)) → (q : queue_t) (x : yaml_token_t) → TakesNext s.layout.queue q x → Pops s (set_queue s q (s.taken + 1)) x
+pub next_popped : (s : Scanner) → IsRunning s → s.taken < length (before s.limit (history s)) → (q : queue_t) (x : yaml_token_t) → TakesNext s.layout.queue q x → Pops s (set_queue s q (s.taken + 1)) x
 next_popped s r l q x k = pops s r l (set_queue s q (s.taken + 1)) x (k s.text.encoding (drop s.taken (offline (history s))) r.holds.queue) refl refl refl refl refl refl refl refl refl refl

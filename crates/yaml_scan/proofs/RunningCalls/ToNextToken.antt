@@ -3,16 +3,19 @@ use Rattle.std.proofs.Common.{◌≡◌, ℕ, ◌+◌, ◌-◌, ◌≤◌, ◌<�
 use Rattle.yaml_text.specs.declared.types.yaml_encoding_t.{yaml_encoding_t}
 use Rattle.yaml_text.specs.Fault.{Fault}
 use Rattle.yaml_scan.specs.Course.{Input, Course, course}
-use Rattle.yaml_scan.specs.declared.scanner.scanner_t.{scanner_t}
+use Rattle.yaml_scan.specs.inside.Scanner.{Scanner}
 use Rattle.yaml_scan.specs.Laid.{reach}
 use Rattle.yaml_scan.specs.Settled.{before}
 use Rattle.yaml_scan.specs.Settled.{settled, steps_for, pace, first_steps, tokens_of}
 use Rattle.yaml_scan.specs.Session.{all_steps}
 use Rattle.yaml_scan.specs.Decoded.{decoded_input}
-use Rattle.yaml_scan.specs.inside.Scanning.{Settles, Fails, Stops, Same, history, course_of, input_of}
+use Rattle.yaml_scan.specs.inside.Scanning.{Settles, Fails, Stops, Same, course_of, input_of}
 use Rattle.yaml_scan.specs.inside.Ready.{IsNew, IsReady, Begins, IsStarted, IsSettled, IsStopped, IsEnded, course_in}
 use Rattle.yaml_scan.specs.Token.{yaml_token_t}
-use Rattle.yaml_scan.specs.inside.Sent.{HasSent, Sends}
+use Rattle.std.specs.Prelude.{Result, Ok, Err}
+use Rattle.yaml_scan.specs.declared.fault.stop_t.{stop_t}
+use Rattle.yaml_scan.specs.inside.Sent.{HasSent, HasSentOrSettled, Sends, SendsOrSettles}
+use Rattle.yaml_scan.specs.inside.Stop.{fault_at}
 use Rattle.yaml_scan.proofs.RunningCalls.GivenTokens.{taken_is}
 use Rattle.yaml_scan.proofs.Course.StepsNeeded.{at_least}
 use Rattle.yaml_scan.proofs.RunningCalls.StepsMade.{open_too}
@@ -21,22 +24,22 @@ both_false : (a b : Bool) → b ≡ false → (a && b) ≡ false
 both_false true b e = e
 both_false false b e = refl
 
-pub started_new : (setting : yaml_encoding_t) (input : List ℕ) (s t : scanner_t) → Begins setting input s t → s.made ≡ 0 → IsStarted setting input s t
+pub started_new : (setting : yaml_encoding_t) (input : List ℕ) (s t : Scanner) → Begins setting input s t → s.made ≡ 0 → IsStarted setting input s t
 started_new setting input s t b z = let m = b.made in record { stands = b.stands; still_open = b.still_open; made = omega arith; limit = b.limit; taken = b.taken; done = b.done }
 
-pub started_before : (setting : yaml_encoding_t) (input : List ℕ) (s : scanner_t) → IsReady setting input s → 0 < s.made → IsStarted setting input s s
+pub started_before : (setting : yaml_encoding_t) (input : List ℕ) (s : Scanner) → IsReady setting input s → 0 < s.made → IsStarted setting input s s
 started_before setting input s (inl n) z = let m = n.made in absurd (omega arith)
 started_before setting input s (inr r) z = record { stands = r.0; still_open = r.1; made = omega arith; limit = refl; taken = refl; done = refl }
 
-pub ready_new : (setting : yaml_encoding_t) (input : List ℕ) (s : scanner_t) → IsReady setting input s → s.made ≤ 0 → IsNew s
+pub ready_new : (setting : yaml_encoding_t) (input : List ℕ) (s : Scanner) → IsReady setting input s → s.made ≤ 0 → IsNew s
 ready_new setting input s (inl n) z = n
 ready_new setting input s (inr r) z = let b = r.0.runs.begun in absurd (omega arith)
 
-pub course_is : (setting : yaml_encoding_t) (input : List ℕ) (s : scanner_t) → input_of s ≡ decoded_input setting input → course_of s ≡ course_in s.limit setting input
+pub course_is : (setting : yaml_encoding_t) (input : List ℕ) (s : Scanner) → input_of s ≡ decoded_input setting input → course_of s ≡ course_in s.limit setting input
 unfolding course_of
 course_is setting input s e = ap (λ (i : Input). course s.limit i) e
 
-module _ (setting : yaml_encoding_t) (input : List ℕ) (s t u : scanner_t) (b : IsStarted setting input s t) where
+module _ (setting : yaml_encoding_t) (input : List ℕ) (s t u : Scanner) (b : IsStarted setting input s t) where
   course_t : course_of t ≡ course_in s.limit setting input
   course_t = course_is setting input t b.stands.reads ∙ ap (λ (n : ℕ). course_in n setting input) b.limit
 
@@ -61,25 +64,16 @@ module _ (setting : yaml_encoding_t) (input : List ℕ) (s t u : scanner_t) (b :
     done = (let e = k.same in e.done ∙ b.done);
   }
 
-  history_is : Same t u → reach (history u) ≡ reach (first_steps u.made (course_in s.limit setting input).read)
-  unfolding history
-  history_is e =
-      let c : course_of u ≡ course_in s.limit setting input = course_is setting input u (input_same e ∙ b.stands.reads) ∙ ap (λ (n : ℕ). course_in n setting input) (e.limit ∙ b.limit) in
-      ap (λ (x : Course). reach (first_steps u.made x.read)) c
-
   unsettled_in : Stops t u → settled s.limit (course_in s.limit setting input).read s.taken u.made ≡ false
-  unfolding history
   unsettled_in k =
-      let e = k.same in
-      let c : course_of u ≡ course_in s.limit setting input = course_is setting input u (input_same e ∙ b.stands.reads) ∙ ap (λ (n : ℕ). course_in n setting input) (e.limit ∙ b.limit) in
-      let v = ap (λ (x : Course). length (before u.limit (first_steps u.made x.read))) c in
-      let w = ap (λ (n : ℕ). length (before n (first_steps u.made (course_in s.limit setting input).read))) (e.limit ∙ b.limit) in
-      let x = e.taken ∙ b.taken in
+      let v = ap (λ (x : Course). length (before t.limit (first_steps u.made x.read))) course_t in
+      let w = ap (λ (n : ℕ). length (before n (first_steps u.made (course_in s.limit setting input).read))) b.limit in
+      let x = b.taken in
       let l = k.unsettled in
       both_false _ _ (le-ltb s.taken (length (before s.limit (first_steps u.made (course_in s.limit setting input).read))) (omega arith))
 
   pub stopped_in : Stops t u → IsStopped setting input s u
-  stopped_in k = let e = k.same in let p = pace_is in let m = b.made in let l = k.least in let n = k.most in record { limit = e.limit ∙ b.limit; taken = e.taken ∙ b.taken; done = e.done ∙ b.done; least = omega arith; most = omega arith; unsettled = unsettled_in k; reach = k.reach ∙ history_is e }
+  stopped_in k = let p = pace_is in let m = b.made in let l = k.least in let n = k.most in record { limit = k.limit ∙ b.limit; taken = k.taken ∙ b.taken; done = k.done ∙ b.done; least = omega arith; most = omega arith; unsettled = unsettled_in k; reach = k.reach ∙ ap (λ (x : Course). reach (first_steps u.made x.read)) course_t }
 
   pub begun_is : (course_in s.limit setting input).begun ≡ true
   begun_is = sym (ap (λ (c : Course). c.begun) course_t) ∙ b.stands.runs.start
@@ -115,3 +109,17 @@ module _ (setting : yaml_encoding_t) (input : List ℕ) (s t u : scanner_t) (b :
         omega arith);
     no_end = k.no_end;
   }
+
+  -- the same, whatever came
+  pub sent_or_settled_in : (took : List yaml_token_t → Type 0) (refuses : Type 0) (result : Result Bool stop_t) → SendsOrSettles t u took refuses result → HasSentOrSettled setting input s u took refuses result
+  sent_or_settled_in took refuses (Ok true) w = (settled_in w.0, w.1)
+  sent_or_settled_in took refuses (Ok false) w = (w.0, sent_in w.0 w.1, w.2)
+  sent_or_settled_in took refuses (Err stop) (inr w) = inr w
+  sent_or_settled_in took refuses (Err stop) (inl w) = inl (
+    elim w.0 [
+      | inl m ↦ inl (record { fault = m; in_utf8 = λ e. begun_is })
+      | inr f ↦ inr (ended_in (fault_at stop u.refusal) f)
+    ],
+    stopped_in w.1,
+    w.2,
+  )

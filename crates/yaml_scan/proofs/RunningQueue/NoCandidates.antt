@@ -2,7 +2,7 @@
 use Rattle.std.proofs.Common.{◌≡◌, ℕ, zero, suc, false, ◌-◌, ◌≤◌, ◌<◌, List, [], ◌∷◌, map, take, length, length-append, Option, Some, None, refl, ap, sym, ◌∙◌, arith, inl, inr, eqb-true}
 use Rattle.std.specs.Prelude.{◌⊎◌, slice_get}
 use Rattle.yaml_text.specs.declared.types.yaml_mark_t.{yaml_mark_t}
-use Rattle.yaml_scan.specs.declared.scanner.scanner_t.{scanner_t}
+use Rattle.yaml_scan.specs.inside.Scanner.{Scanner}
 use Rattle.yaml_scan.specs.Depth.{depth}
 use Rattle.yaml_scan.specs.Groups.{Token, offline}
 use Rattle.yaml_scan.specs.Groups.Token.{OfLexeme}
@@ -26,7 +26,7 @@ up_to_short limit H k c h s =
     omega arith
 
 -- the token of a candidate would be queued
-pub none_held : (H : List Laid) (n : ℕ) (s : scanner_t) → Holds H n s → s.layout.queue.groups.items ≡ [] → lowest s.slots.outer.items ≡ None
+pub none_held : (H : List Laid) (n : ℕ) (s : Scanner) → Holds H n s → s.layout.queue.groups.items ≡ [] → lowest s.slots.outer.items ≡ None
 none_held H n s h e = rw h.outer (go (lowest_is s.limit H (depth H)))
   where
     all_taken : length (offline H) ≤ s.taken

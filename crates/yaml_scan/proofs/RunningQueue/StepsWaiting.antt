@@ -5,7 +5,7 @@ use Rattle.std.proofs.lemmas.Bool.{cases_Bool, cases_eq, cases_lt}
 use Rattle.std.proofs.lemmas.List.{take-append-le, drop_all, length-map, length-reverse}
 use Rattle.std.proofs.lemmas.List.Elements.{filter-append}
 use Rattle.yaml_scan.specs.Course.{oldest}
-use Rattle.yaml_scan.specs.declared.scanner.scanner_t.{scanner_t}
+use Rattle.yaml_scan.specs.inside.Scanner.{Scanner}
 use Rattle.yaml_scan.specs.Laid.{Laid}
 use Rattle.yaml_scan.specs.Laws.{is_of_lexeme}
 use Rattle.yaml_scan.specs.Begins.{Begins}
@@ -162,7 +162,7 @@ module _ (limit : ℕ) (H : List Laid) (h : IsHistory limit H) where
 
 -- OF A SCANNER
 -- those that wait have a group, and those that do not are counted
-pub done_is : (s : scanner_t) → IsRunning s → queued (history s) s.taken (history s) + s.layout.queue.done ≡ s.made
+pub done_is : (s : Scanner) → IsRunning s → queued (history s) s.taken (history s) + s.layout.queue.done ≡ s.made
 unfolding offline
 done_is s r =
     let g = r.holds in

@@ -9,7 +9,7 @@ use Rattle.yaml_text.specs.Token.{token_of}
 use Rattle.yaml_scan.specs.declared.groups.block_t.{block_t}
 use Rattle.yaml_scan.specs.declared.groups.block_t.TheVariants.{NONE, SEQUENCE, MAPPING}
 use Rattle.yaml_scan.specs.declared.groups.group_t.{group_t}
-use Rattle.yaml_scan.specs.declared.scanner.scanner_t.{scanner_t}
+use Rattle.yaml_scan.specs.inside.Scanner.{Scanner}
 use Rattle.yaml_scan.specs.Begins.{Begins}
 use Rattle.yaml_scan.specs.Depth.{depth}
 use Rattle.yaml_scan.specs.Groups.{Token, handed_out, offline}
@@ -85,7 +85,7 @@ whole_front xs ys b l =
     let k = length-append xs b.rest in
     b.is ∙ ap (λ (z : List Token). xs ++ z) (no_rest b.rest (omega arith)) ∙ append-nil xs
 
-module _ (H : List Laid) (n : ℕ) (s : scanner_t) (ys : List group_t) (h : HoldsWith H n s ys) (z : s.slots.awaited ≡ 0) where
+module _ (H : List Laid) (n : ℕ) (s : Scanner) (ys : List group_t) (h : HoldsWith H n s ys) (z : s.slots.awaited ≡ 0) where
   none_awaits : IsNone s.limit H (depth H + 1)
   none_awaits = go (lowest_is s.limit H (depth H + 1))
     where

@@ -19,7 +19,7 @@ use Rattle.yaml_scan.specs.declared.groups.group_t.{group_t}
 use Rattle.yaml_scan.specs.declared.slots.slots_t.{slots_t}
 use Rattle.yaml_scan.specs.declared.levels.layout_t.{layout_t}
 use Rattle.yaml_scan.specs.declared.met.step_t.{step_t}
-use Rattle.yaml_scan.specs.declared.scanner.scanner_t.{scanner_t}
+use Rattle.yaml_scan.specs.inside.Scanner.{Scanner}
 use Rattle.yaml_scan.specs.Allowed.{allowed_after, allows}
 use Rattle.yaml_scan.specs.Depth.{depth}
 use Rattle.yaml_scan.specs.Kind.{Kind, is_candidate_kind, is_plain, is_stream_end, is_value}
@@ -60,7 +60,7 @@ live_kept : (limit : ℕ) (m : yaml_mark_t) (h : Held) → is_live limit m h ≡
 live_kept limit m h e = rw (e, and_not h.required) refl
 
 -- the same scanner holds the same, whatever steps are counted
-pub counted_holds : (H : List Laid) (n : ℕ) (s : scanner_t) (ys : List group_t) → HoldsWith H n s ys → HoldsWith H n (counted s) ys
+pub counted_holds : (H : List Laid) (n : ℕ) (s : Scanner) (ys : List group_t) → HoldsWith H n s ys → HoldsWith H n (counted s) ys
 counted_holds H n s ys h = record {
   text = h.text;
   is_history = h.is_history;
@@ -82,7 +82,7 @@ counted_holds H n s ys h = record {
 }
 
 -- it needs more steps while the head of the queue is that of the lowest candidate
-module _ (H : List Laid) (n : ℕ) (s : scanner_t) (zs : List group_t) (h : HoldsWith H n s zs) (SOME : 0 < length zs) (AWAITED : s.slots.awaited ≡ s.layout.queue.done + 1) (ENDS : begins_with_end (pending s.layout.queue.early s.layout.queue.front zs) ≡ false) where
+module _ (H : List Laid) (n : ℕ) (s : Scanner) (zs : List group_t) (h : HoldsWith H n s zs) (SOME : 0 < length zs) (AWAITED : s.slots.awaited ≡ s.layout.queue.done + 1) (ENDS : begins_with_end (pending s.layout.queue.early s.layout.queue.front zs) ≡ false) where
   pub unsettled : length (before s.limit H) ≤ s.taken
   unsettled =
       let q = s.layout.queue in
@@ -133,7 +133,7 @@ pub allows_same : (f : Bool) (k : Kind) (n : ℕ) (none b : Bool) → decides f 
 allows_same f k n none b e = rw (decider_not_plain f k e) refl
 
 -- a lexeme that was met and read
-module _ (H : List Laid) (s : scanner_t) (r : step_t) (x : yaml_lexeme_t) (c : CanLayAll H s r x) (q : is_candidate_kind r.kind ≡ true) where
+module _ (H : List Laid) (s : Scanner) (r : step_t) (x : yaml_lexeme_t) (c : CanLayAll H s r x) (q : is_candidate_kind r.kind ≡ true) where
   abbrev cs : List ℕ
   cs = reverse s.layout.levels.items
 
@@ -162,7 +162,7 @@ module _ (H : List Laid) (s : scanner_t) (r : step_t) (x : yaml_lexeme_t) (c : C
       to_reach f.1
 
 -- A CANDIDATE, AND WHAT DECIDES IT
-module _ (H : List Laid) (s : scanner_t) (r : step_t) (x : yaml_lexeme_t) (c : CanLayAll H s r x) (sparing : Bool) (k : Kind) (y : yaml_lexeme_t) (d : IsDecided s sparing r x.reach k y) where
+module _ (H : List Laid) (s : Scanner) (r : step_t) (x : yaml_lexeme_t) (c : CanLayAll H s r x) (sparing : Bool) (k : Kind) (y : yaml_lexeme_t) (d : IsDecided s sparing r x.reach k y) where
   abbrev h : Holds H (s.made + 1) s
   h = c.can.can.holds
 
@@ -220,8 +220,8 @@ module _ (H : List Laid) (s : scanner_t) (r : step_t) (x : yaml_lexeme_t) (c : C
     abbrev then_allowed : Bool
     then_allowed = is_plain r.kind && x.passed_break
 
-    abbrev pub between : scanner_t
-    between = record { alloc = s.alloc; text = s.text; refusal = s.refusal; near = s.near; limit = s.limit; slots = slots; allowed = then_allowed; layout = layout; reach = x.reach; front = s.front; there = s.there; kept = s.kept; taken = s.taken; made = s.made }
+    abbrev pub between : Scanner
+    between = record { alloc = s.alloc; text = s.text; refusal = s.refusal; near = s.near; limit = s.limit; slots = slots; allowed = then_allowed; layout = layout; reach = x.reach; front = s.front; there = s.there; taken = s.taken; made = s.made }
 
     early : s.layout.queue.early ≡ 0
     early = h.early c.can.can.running
@@ -354,8 +354,8 @@ module _ (H : List Laid) (s : scanner_t) (r : step_t) (x : yaml_lexeme_t) (c : C
         (value : yaml_token_t) (SAYS : token_of value ≡ record { token_data = y.token_data; start_mark = front; end_mark = y.end_mark })
         (S : slots_t) (OUTER : S.outer.items ≡ nested_outer k outer None) (TOP : S.top ≡ nested_top k outer None) (EMPTY : S.not_simple_keys ≡ vec_len S.outer) (AWAITED : S.awaited ≡ 0)
         (a : Bool) (ALLOWED : (n : ℕ) → r.in_flow ≡ nat_lt 0 n → a ≡ allows k n (not key) false) where
-      abbrev pub after : scanner_t
-      after = record { alloc = s.alloc; text = s.text; refusal = s.refusal; near = s.near; limit = s.limit; slots = S; allowed = a; layout = record { levels = V; queue = s.layout.queue }; reach = y.reach; front = s.front; there = s.there; kept = s.kept; taken = s.taken; made = s.made + 1 }
+      abbrev pub after : Scanner
+      after = record { alloc = s.alloc; text = s.text; refusal = s.refusal; near = s.near; limit = s.limit; slots = S; allowed = a; layout = record { levels = V; queue = s.layout.queue }; reach = y.reach; front = s.front; there = s.there; taken = s.taken; made = s.made + 1 }
 
       -- its group, once it is decided
       abbrev pub keyed_group : group_t
@@ -413,11 +413,11 @@ module _ (H : List Laid) (s : scanner_t) (r : step_t) (x : yaml_lexeme_t) (c : C
         allows = λ n e. ALLOWED n e ∙ (rw KEY (allows_same r.in_flow k n (not (is_value k)) y.passed_break decider.decides));
       }
 
-      pub twice : (zs : List group_t) → zs ≡ keyed_group ∷ (last ∷ []) → (t : scanner_t) → counted t ≡ after → LaysTwo sparing H s t zs
+      pub twice : (zs : List group_t) → zs ≡ keyed_group ∷ (last ∷ []) → (t : Scanner) → counted t ≡ after → LaysTwo sparing H s t zs
       twice zs Z t T =
           let a : AdvancesTwice H s after (keyed_group ∷ (last ∷ [])) = record { between = between; then_queued = group ∷ []; first = first.advances; running = then_running; far = c.far; second = second.advances } in
           let b : (b : AdvancesTwice H s after (keyed_group ∷ (last ∷ []))) × Needs sparing H s after (keyed_group ∷ (last ∷ [])) b = (a, then_needed) in (
             subst (λ (z : List group_t). (b : AdvancesTwice H s (counted t) z) × Needs sparing H s (counted t) z b) (sym Z)
-                (subst (λ (w : scanner_t). (b : AdvancesTwice H s w (keyed_group ∷ (last ∷ []))) × Needs sparing H s w (keyed_group ∷ (last ∷ [])) b) (sym T) b),
-            subst (λ (m : yaml_mark_t). m.index < s.near) (sym (ap (λ (w : scanner_t). w.reach) T)) d.far,
+                (subst (λ (w : Scanner). (b : AdvancesTwice H s w (keyed_group ∷ (last ∷ []))) × Needs sparing H s w (keyed_group ∷ (last ∷ [])) b) (sym T) b),
+            subst (λ (m : yaml_mark_t). m.index < s.near) (sym (ap (λ (w : Scanner). w.reach) T)) d.far,
           )

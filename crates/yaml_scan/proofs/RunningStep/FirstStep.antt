@@ -12,7 +12,8 @@ use Rattle.yaml_text.specs.Decoding.{refusal_seen}
 use Rattle.yaml_lexeme.specs.Place.{skip}
 use Rattle.yaml_lexeme.specs.Counted.{IsMarkOf}
 use Rattle.yaml_scan.specs.Course.{oldest, course}
-use Rattle.yaml_scan.specs.declared.scanner.scanner_t.{scanner_t}
+use Rattle.yaml_scan.specs.declared.state.state_t.{state_t}
+use Rattle.yaml_scan.specs.inside.Scanner.{Scanner, scanner_of}
 use Rattle.yaml_scan.specs.SourceOf.{source_of}
 use Rattle.yaml_scan.specs.Laid.{Laid, reach}
 use Rattle.yaml_scan.specs.Keys.{candidate}
@@ -84,14 +85,31 @@ encoding_in setting input = refl
 pub begun_in : (limit : ℕ) (setting : yaml_encoding_t) (input : List ℕ) (text : Text) → text ≡ front setting input → (r : Option Fault) → r ≡ refusal setting input → (near : ℕ) → IsNearOf r text.chars near → near_fault near 0 r ≡ None → (course_in limit setting input).begun ≡ true
 begun_in limit setting input text T r R near N e = begun_course limit setting input text T r R near N e
 
-pub new_reach : (s : scanner_t) → IsNew s → (H : List Laid) → s.reach ≡ reach (first_steps s.made H)
+-- a scanner that has read nothing is new beside any text
+pub new_beside : (s : state_t) (a b : Text) → IsNew (scanner_of a s) → IsNew (scanner_of b s)
+new_beside s a b n = record {
+  levels = n.levels;
+  outer = n.outer;
+  empty = n.empty;
+  top = n.top;
+  awaited = n.awaited;
+  allowed = n.allowed;
+  queue = n.queue;
+  done = n.done;
+  early = n.early;
+  reach = n.reach;
+  taken = n.taken;
+  made = n.made;
+}
+
+pub new_reach : (s : Scanner) → IsNew s → (H : List Laid) → s.reach ≡ reach (first_steps s.made H)
 new_reach s n H = let m = n.made in n.reach ∙ ap reach (sym (first_none s.made H (omega arith)))
 
-pub new_stopped : (setting : yaml_encoding_t) (input : List ℕ) (s : scanner_t) → IsNew s → IsStopped setting input s s
+pub new_stopped : (setting : yaml_encoding_t) (input : List ℕ) (s : Scanner) → IsNew s → IsStopped setting input s s
 unfolding pace
 new_stopped setting input s n = record { limit = refl; taken = refl; done = refl; least = omega arith; most = omega arith; unsettled = (let m = n.made in rw m refl); reach = new_reach s n (course_in s.limit setting input).read }
 
-pub new_ended : (setting : yaml_encoding_t) (input : List ℕ) (s : scanner_t) → IsNew s → (text : Text) → text ≡ front setting input → (r : Option Fault) → r ≡ refusal setting input → (near : ℕ) → IsNearOf r text.chars near → (f : Fault) → near_fault near 0 r ≡ Some f → IsEnded setting input s s f
+pub new_ended : (setting : yaml_encoding_t) (input : List ℕ) (s : Scanner) → IsNew s → (text : Text) → text ≡ front setting input → (r : Option Fault) → r ≡ refusal setting input → (near : ℕ) → IsNearOf r text.chars near → (f : Fault) → near_fault near 0 r ≡ Some f → IsEnded setting input s s f
 new_ended setting input s n text T r R near N f e =
     let c = ended_course s.limit setting input text T r R near N f e in
     record { none = rw c (omega arith); fault = rw c refl; made = rw c n.made }
@@ -128,7 +146,7 @@ empty_top : (limit : ℕ) → held limit [] (depth []) ≡ None
 unfolding candidate
 empty_top limit = refl
 
-module _ (setting : yaml_encoding_t) (input : List ℕ) (s t : scanner_t) (n : IsNew s) (T : t.text ≡ front setting input) (C : AreChars t.text.chars) (small : length t.text.chars < 2 ^ 63) (R : refusal_seen t.refusal ≡ refusal setting input) (N : IsNearOf (refusal_seen t.refusal) t.text.chars t.near)
+module _ (setting : yaml_encoding_t) (input : List ℕ) (s t : Scanner) (n : IsNew s) (T : t.text ≡ front setting input) (C : AreChars t.text.chars) (small : length t.text.chars < 2 ^ 63) (R : refusal_seen t.refusal ≡ refusal setting input) (N : IsNearOf (refusal_seen t.refusal) t.text.chars t.near)
     (L : t.limit ≡ s.limit) (V : t.layout.levels.items ≡ s.layout.levels.items) (O : t.slots ≡ s.slots) (A : t.allowed ≡ s.allowed) (Q : IsQueue t.text.encoding t.layout.queue.early t.layout.queue.front t.layout.queue.groups.items (StreamStart ∷ [])) (G : length t.layout.queue.groups.items ≡ 1) (E : t.layout.queue.early ≡ s.layout.queue.early) (D : t.layout.queue.done ≡ s.layout.queue.done) (J : t.reach ≡ s.reach) (K : t.taken ≡ s.taken) (M : t.made ≡ 1)
     (e : near_fault t.near 0 (refusal_seen t.refusal) ≡ None) where
   input_is : input_of t ≡ decoded_input setting input

@@ -1,10 +1,10 @@
 -- A scanner that was given room holds what it held.
 use Rattle.std.proofs.Common.{◌≡◌, ℕ, List}
-use Rattle.yaml_scan.specs.declared.scanner.scanner_t.{scanner_t}
+use Rattle.yaml_scan.specs.inside.Scanner.{Scanner}
 use Rattle.yaml_scan.specs.Laid.{Laid}
 use Rattle.yaml_scan.specs.inside.Scanning.{Holds}
 
-pub with_room : (H : List Laid) (n : ℕ) (s t : scanner_t) → Holds H n s → t.text ≡ s.text → t.limit ≡ s.limit
+pub with_room : (H : List Laid) (n : ℕ) (s t : Scanner) → Holds H n s → t.text ≡ s.text → t.limit ≡ s.limit
     → t.slots.outer.items ≡ s.slots.outer.items → t.slots.not_simple_keys ≡ s.slots.not_simple_keys → t.slots.top ≡ s.slots.top
     → t.slots.awaited ≡ s.slots.awaited → t.allowed ≡ s.allowed → t.layout.levels.items ≡ s.layout.levels.items
     → t.layout.queue.groups.items ≡ s.layout.queue.groups.items → t.layout.queue.done ≡ s.layout.queue.done

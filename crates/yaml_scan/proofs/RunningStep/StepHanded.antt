@@ -13,7 +13,7 @@ use Rattle.yaml_scan.specs.declared.fault.stop_t.{stop_t}
 use Rattle.yaml_scan.specs.declared.fault.stop_t.TheVariants.{SINK}
 use Rattle.yaml_scan.specs.declared.groups.group_t.{group_t}
 use Rattle.yaml_scan.specs.declared.groups.queue_t.{queue_t}
-use Rattle.yaml_scan.specs.declared.scanner.scanner_t.{scanner_t}
+use Rattle.yaml_scan.specs.inside.Scanner.{Scanner}
 use Rattle.yaml_scan.specs.Groups.{Token, offline}
 use Rattle.yaml_lexeme.specs.Counted.{IsMarkOf}
 use Rattle.yaml_scan.specs.Kind.{Kind, is_candidate_kind, is_stream_end}
@@ -59,7 +59,7 @@ tokens_within e n m (y ∷ ys) xs q =
     omega arith
 
 -- there are few of them
-pub few_tokens : (H : List Laid) (n : ℕ) (s : scanner_t) (ys : List group_t) → HoldsWith H n s ys → n < 2 ^ 65 → 0 < length (groups_tokens ys) → s.taken + length (groups_tokens ys) < 2 ^ 128
+pub few_tokens : (H : List Laid) (n : ℕ) (s : Scanner) (ys : List group_t) → HoldsWith H n s ys → n < 2 ^ 65 → 0 < length (groups_tokens ys) → s.taken + length (groups_tokens ys) < 2 ^ 128
 few_tokens H n s ys h l z =
     let a = tokens_within s.text.encoding s.layout.queue.early s.layout.queue.front ys (drop s.taken (offline H)) h.queue in
     let b = length-drop s.taken (offline H) in
@@ -68,7 +68,7 @@ few_tokens H n s ys h l z =
     omega arith
 
 -- THE SAME SCANNER WITH ANOTHER QUEUE
-queue_holds : (H : List Laid) (n : ℕ) (s : scanner_t) (zs : List group_t) (q : queue_t) → q.done ≡ s.layout.queue.done → q.early ≡ s.layout.queue.early → q.front ≡ s.layout.queue.front → HoldsWith H n s zs → HoldsWith H n (with_queue s q) zs
+queue_holds : (H : List Laid) (n : ℕ) (s : Scanner) (zs : List group_t) (q : queue_t) → q.done ≡ s.layout.queue.done → q.early ≡ s.layout.queue.early → q.front ≡ s.layout.queue.front → HoldsWith H n s zs → HoldsWith H n (with_queue s q) zs
 queue_holds H n s zs q D E F h = record {
   text = h.text;
   is_history = h.is_history;
@@ -89,7 +89,7 @@ queue_holds H n s zs q D E F h = record {
   place = h.place;
 }
 
-queue_advances : (H : List Laid) (s t : scanner_t) (zs : List group_t) (q : queue_t) → q.done ≡ t.layout.queue.done → q.early ≡ t.layout.queue.early → q.front ≡ t.layout.queue.front → AdvancesWith H s t zs → AdvancesWith H s (with_queue t q) zs
+queue_advances : (H : List Laid) (s t : Scanner) (zs : List group_t) (q : queue_t) → q.done ≡ t.layout.queue.done → q.early ≡ t.layout.queue.early → q.front ≡ t.layout.queue.front → AdvancesWith H s t zs → AdvancesWith H s (with_queue t q) zs
 queue_advances H s t zs q D E F a = record {
   lexeme = a.lexeme;
   step = a.step;
@@ -100,7 +100,7 @@ queue_advances H s t zs q D E F a = record {
   made = a.made;
 }
 
-queue_two : (sparing : Bool) (H : List Laid) (s t : scanner_t) (zs : List group_t) (q : queue_t) → q.done ≡ t.layout.queue.done → q.early ≡ t.layout.queue.early → q.front ≡ t.layout.queue.front → LaysTwo sparing H s t zs → LaysTwo sparing H s (with_queue t q) zs
+queue_two : (sparing : Bool) (H : List Laid) (s t : Scanner) (zs : List group_t) (q : queue_t) → q.done ≡ t.layout.queue.done → q.early ≡ t.layout.queue.early → q.front ≡ t.layout.queue.front → LaysTwo sparing H s t zs → LaysTwo sparing H s (with_queue t q) zs
 queue_two sparing H s t zs q D E F w = let a = w.0.0 in (
   (
     record { between = a.between; then_queued = a.then_queued; first = a.first; running = a.running; far = a.far; second = queue_advances (laid s.limit H a.first.lexeme ∷ H) (counted a.between) (counted t) zs q D E F a.second },
@@ -114,7 +114,7 @@ ended_is : (limit : ℕ) (H : List Laid) (x : Lexeme) → ended (laid limit H x 
 unfolding laid
 ended_is limit H x = refl
 
-module _ (H : List Laid) (s u : scanner_t) (k : Kind) (y : group_t) (A : IsLaidAs H s k u (groups_in u ++ y ∷ [])) (FAR : u.reach.index < s.near) (SAYS : is_end (token_of y.token) ≡ is_stream_end k) where
+module _ (H : List Laid) (s u : Scanner) (k : Kind) (y : group_t) (A : IsLaidAs H s k u (groups_in u ++ y ∷ [])) (FAR : u.reach.index < s.near) (SAYS : is_end (token_of y.token) ≡ is_stream_end k) where
   long : 0 < length (groups_tokens (groups_in u ++ y ∷ []))
   long = let a = ap (λ (l : List yaml_token_t). length l) (groups_append (groups_in u) (y ∷ [])) in let b = length-append (groups_tokens (groups_in u)) (groups_tokens (y ∷ [])) in let c = length-append (group_tokens y) [] in let d = group_some y in omega arith
 
@@ -130,7 +130,7 @@ module _ (H : List Laid) (s u : scanner_t) (k : Kind) (y : group_t) (A : IsLaidA
   pub done_there : s.made + 2 < 2 ^ 64 → u.layout.queue.done + 1 < 2 ^ 64
   done_there l = let h = A.advances.holds in let a = h.count in let b = h.number in let c = length-append (groups_in u) (y ∷ []) in omega arith
 
-  module _ (direct waits : Bool) (LAST : waits ≡ false → is_stream_end k ≡ false) (NONE : waits ≡ false → u.slots.awaited ≡ 0) (ALONE : waits ≡ false → groups_in u ≡ []) (t : scanner_t) (took : List yaml_token_t → Type 0) (refuses : Type 0) where
+  module _ (direct waits : Bool) (LAST : waits ≡ false → is_stream_end k ≡ false) (NONE : waits ≡ false → u.slots.awaited ≡ 0) (ALONE : waits ≡ false → groups_in u ≡ []) (t : Scanner) (took : List yaml_token_t → Type 0) (refuses : Type 0) where
     settled_all : waits ≡ false → AllSettled u (groups_in u ++ y ∷ []) (group_tokens y)
     settled_all w = record {
       awaited = NONE w;
@@ -142,7 +142,7 @@ module _ (H : List Laid) (s u : scanner_t) (k : Kind) (y : group_t) (A : IsLaidA
     queued : IsPushed u.layout.queue y t.layout.queue → t ≡ with_queue u t.layout.queue → IsLaidBy true H s t (groups_in t) 1
     queued p e =
         let a : AdvancesWith H s (with_queue u t.layout.queue) (groups_in t) = subst (λ (zs : List group_t). AdvancesWith H s (with_queue u t.layout.queue) zs) (sym p.groups) (queue_advances H s u (groups_in u ++ y ∷ []) t.layout.queue p.done p.early p.front A.advances) in
-        subst (λ (z : scanner_t). IsLaidBy true H s z (groups_in t) 1) (sym e) (inl (refl, a, FAR))
+        subst (λ (z : Scanner). IsLaidBy true H s z (groups_in t) 1) (sym e) (inl (refl, a, FAR))
 
     emptied : waits ≡ false → (tokens : List yaml_token_t) → tokens ≡ group_tokens y → t ≡ set_queue u (one_done u.layout.queue) (u.taken + length tokens) → Empties u (groups_in u ++ y ∷ []) t tokens
     emptied w tokens T e =
@@ -162,7 +162,7 @@ module _ (H : List Laid) (s u : scanner_t) (k : Kind) (y : group_t) (A : IsLaidA
           groups = ALONE w;
           done = rw (ALONE w) refl;
           taken = refl;
-        } in subst (λ (z : scanner_t). Empties u (groups_in u ++ y ∷ []) z tokens) (sym e) f
+        } in subst (λ (z : Scanner). Empties u (groups_in u ++ y ∷ []) z tokens) (sym e) f
 
     pub one_handed : (o : Result (Unit {0}) stop_t) → IsHandedOn direct waits u t y took refuses o → LaysTo H s t direct took refuses (made_by 1 o)
     one_handed (Ok x) g = elim g.1 [
@@ -172,7 +172,7 @@ module _ (H : List Laid) (s u : scanner_t) (k : Kind) (y : group_t) (A : IsLaidA
     one_handed (Err stop) g = (g.2, (1, group_tokens y, u, groups_in u ++ y ∷ [], inl (refl, A.advances, FAR), g.0, settled_all g.1, g.3), g.4)
 
 -- THE LEXEME OF A STEP
-module _ (H : List Laid) (s : scanner_t) (r : step_t) (x : yaml_lexeme_t) (c : CanLayAll H s r x) where
+module _ (H : List Laid) (s : Scanner) (r : step_t) (x : yaml_lexeme_t) (c : CanLayAll H s r x) where
   read_there : IsRead s.text.chars r.kind r.context.depth r.context.level (front_of (source_of s.text.chars) H) x
   read_there = c.read (front_of (source_of s.text.chars) H) c.can.met.front
 
@@ -191,7 +191,7 @@ is_sparing : (direct waits : Bool) → (waits ≡ false → direct ≡ true) →
 is_sparing direct true f g = refl
 is_sparing direct false f g = g (f refl)
 
-module _ (H : List Laid) (s u : scanner_t) (direct waits : Bool) (y : group_t) (second : code_token_t) (B : IsLaidBoth H s u direct waits y second) where
+module _ (H : List Laid) (s u : Scanner) (direct waits : Bool) (y : group_t) (second : code_token_t) (B : IsLaidBoth H s u direct waits y second) where
   abbrev z : group_t
   z = lone second
 
@@ -239,18 +239,18 @@ module _ (H : List Laid) (s u : scanner_t) (direct waits : Bool) (y : group_t) (
   laid_all : waits ≡ false → IsLaidBy false H s u both 2
   laid_all w = subst (λ (b : Bool). IsLaidBy b H s u both 2) w (inr (refl, B.laid))
 
-  module _ (t v : scanner_t) (took : List yaml_token_t → Type 0) (refuses : Type 0) where
+  module _ (t v : Scanner) (took : List yaml_token_t → Type 0) (refuses : Type 0) where
     both_queued : IsPushed u.layout.queue y t.layout.queue → t ≡ with_queue u t.layout.queue → IsPushed t.layout.queue z v.layout.queue → v ≡ with_queue t v.layout.queue → IsLaidBy waits H s v (groups_in v) 2
     both_queued p e q f =
         let G : groups_in v ≡ both = q.groups ∙ ap (λ (ys : List group_t). ys ++ z ∷ []) p.groups ∙ append_assoc (groups_in u) (y ∷ []) (z ∷ []) in
         let w : LaysTwo waits H s (with_queue u v.layout.queue) (groups_in v) = subst (λ (zs : List group_t). LaysTwo waits H s (with_queue u v.layout.queue) zs) (sym G) (queue_two waits H s u both v.layout.queue (q.done ∙ p.done) (q.early ∙ p.early) (q.front ∙ p.front) B.laid) in
-        let F : v ≡ with_queue u v.layout.queue = f ∙ ap (λ (x : scanner_t). with_queue x v.layout.queue) e in
-        inr (refl, subst (λ (x : scanner_t). LaysTwo waits H s x (groups_in v)) (sym F) w)
+        let F : v ≡ with_queue u v.layout.queue = f ∙ ap (λ (x : Scanner). with_queue x v.layout.queue) e in
+        inr (refl, subst (λ (x : Scanner). LaysTwo waits H s x (groups_in v)) (sym F) w)
 
     both_emptied : waits ≡ false → (k l : List yaml_token_t) → k ≡ group_tokens y → l ≡ group_tokens z → t ≡ set_queue u (one_done u.layout.queue) (u.taken + length k) → v ≡ set_queue t (one_done t.layout.queue) (t.taken + length l) → Empties u both v (k ++ l)
     both_emptied straight k l K M e f =
         let S : AllSettled u both (k ++ l) = subst (λ (ts : List yaml_token_t). AllSettled u both ts) (sym (ap (λ (ts : List yaml_token_t). ts ++ l) K ∙ ap (λ (ts : List yaml_token_t). group_tokens y ++ ts) M)) (both_settled straight) in
-        let F : v ≡ set_queue (set_queue u (one_done u.layout.queue) (u.taken + length k)) (one_done (one_done u.layout.queue)) (u.taken + length k + length l) = f ∙ ap (λ (x : scanner_t). set_queue x (one_done x.layout.queue) (x.taken + length l)) e in
+        let F : v ≡ set_queue (set_queue u (one_done u.layout.queue) (u.taken + length k)) (one_done (one_done u.layout.queue)) (u.taken + length k + length l) = f ∙ ap (λ (x : Scanner). set_queue x (one_done x.layout.queue) (x.taken + length l)) e in
         let n = length-append k l in
         let alone = ap (λ (ys : List group_t). length ys) (B.alone straight) in
         let w : Empties u both (set_queue (set_queue u (one_done u.layout.queue) (u.taken + length k)) (one_done (one_done u.layout.queue)) (u.taken + length k + length l)) (k ++ l) = record {
@@ -268,7 +268,7 @@ module _ (H : List Laid) (s u : scanner_t) (direct waits : Bool) (y : group_t) (
           groups = B.alone straight;
           done = rw (B.alone straight) (omega arith);
           taken = omega arith;
-        } in subst (λ (x : scanner_t). Empties u both x (k ++ l)) (sym F) w
+        } in subst (λ (x : Scanner). Empties u both x (k ++ l)) (sym F) w
 
     both_handed : (k l : List yaml_token_t) → IsHanded direct waits u t y k → IsHanded direct waits t v z l → took (k ++ l) → LaysTo H s v direct took refuses (Ok 2)
     both_handed k l (inl p) (inl q) g = ([], v, groups_in v, waits, both_queued p.2 p.3 q.2 q.3, inl (is_sparing direct waits B.straight p.0, refl, refl, refl), subst took (ap (λ (ts : List yaml_token_t). ts ++ l) p.1 ∙ q.1) g)
@@ -284,36 +284,36 @@ module _ (H : List Laid) (s u : scanner_t) (direct waits : Bool) (y : group_t) (
     first_cut stop c = cut stop c.0 c.1 c.2 (cut_longer took (group_tokens y) (group_tokens z) c.3) c.4
 
   -- what was given of the first
-  first_given : (v : scanner_t) (k : List yaml_token_t) → direct ≡ true → waits ≡ false → IsHanded direct waits u v y k → k ≡ group_tokens y
+  first_given : (v : Scanner) (k : List yaml_token_t) → direct ≡ true → waits ≡ false → IsHanded direct waits u v y k → k ≡ group_tokens y
   first_given v k d w (inl p) = absurd (false≢true (sym w ∙ p.0 d))
   first_given v k d w (inr p) = p.2
 
   -- the scanner after the first
-  pub first_done : (v : scanner_t) (k : List yaml_token_t) → IsHanded direct waits u v y k → (length (groups_in v) < deque_capacity v.layout.queue.groups) × (v.layout.queue.done + 1 < 2 ^ 64) × (v.taken + length (group_tokens z) < 2 ^ 128)
+  pub first_done : (v : Scanner) (k : List yaml_token_t) → IsHanded direct waits u v y k → (length (groups_in v) < deque_capacity v.layout.queue.groups) × (v.layout.queue.done + 1 < 2 ^ 64) × (v.taken + length (group_tokens z) < 2 ^ 128)
   first_done v k (inl p) =
       let q = p.2 in
       let n = ap (λ (ys : List group_t). length ys) q.groups in
       let g = length-append (groups_in u) (y ∷ []) in
       let c = q.capacity in
       let d = q.done in
-      let e = ap (λ (x : scanner_t). x.taken) p.3 in
+      let e = ap (λ (x : Scanner). x.taken) p.3 in
       let R = B.room in
       let D = done_both in
       let T = few_both in
       (omega arith, omega arith, omega arith)
   first_done v k (inr p) =
-      let n = ap (λ (x : scanner_t). length (groups_in x)) p.3 in
+      let n = ap (λ (x : Scanner). length (groups_in x)) p.3 in
       let m = ap (λ (ys : List group_t). length ys) (B.alone p.1) in
-      let c = ap (λ (x : scanner_t). deque_capacity x.layout.queue.groups) p.3 in
-      let d = ap (λ (x : scanner_t). x.layout.queue.done) p.3 in
-      let e = ap (λ (x : scanner_t). x.taken) p.3 in
+      let c = ap (λ (x : Scanner). deque_capacity x.layout.queue.groups) p.3 in
+      let d = ap (λ (x : Scanner). x.layout.queue.done) p.3 in
+      let e = ap (λ (x : Scanner). x.taken) p.3 in
       let l = ap (λ (ts : List yaml_token_t). length ts) p.2 in
       let R = B.room in
       let D = done_both in
       let T = few_both in
       (omega arith, omega arith, omega arith)
 
-  module _ (v w : scanner_t) {S : Type 0} (took : S → List yaml_token_t → S → Type 0) (more : (a b c : S) (xs ys : List yaml_token_t) → took a xs b → took b ys c → took a (xs ++ ys) c) (a b c : S) (refuses : Type 0) where
+  module _ (v w : Scanner) {S : Type 0} (took : S → List yaml_token_t → S → Type 0) (more : (a b c : S) (xs ys : List yaml_token_t) → took a xs b → took b ys c → took a (xs ++ ys) c) (a b c : S) (refuses : Type 0) where
     -- the second was handed on, or it was refused
     pub both_done : (k : List yaml_token_t) → IsHanded direct waits u v y k → took a k b → (o : Result (Unit {0}) stop_t) → IsHandedOn direct waits v w z (λ ts. took b ts c) refuses o → LaysTo H s w direct (λ ts. took a ts c) refuses (made_by 2 o)
     both_done k p g (Ok x) e = both_handed v w (λ ts. took a ts c) refuses k e.0 p e.1 (more a b c k e.0 g e.2)
@@ -323,7 +323,7 @@ module _ (H : List Laid) (s u : scanner_t) (direct waits : Bool) (y : group_t) (
 
 -- WHAT A STEP HAS LAID
 -- its group can be handed on
-pub can_hand : (H : List Laid) (s u : scanner_t) (direct waits : Bool) (y : group_t) (o : Option code_token_t) → WasLaidWith H s u direct waits y o → (length (groups_in u) < deque_capacity u.layout.queue.groups) × HasWords (token_of y.token).token_data × (u.layout.queue.done + 1 < 2 ^ 64) × (u.taken + length (group_tokens y) < 2 ^ 128)
+pub can_hand : (H : List Laid) (s u : Scanner) (direct waits : Bool) (y : group_t) (o : Option code_token_t) → WasLaidWith H s u direct waits y o → (length (groups_in u) < deque_capacity u.layout.queue.groups) × HasWords (token_of y.token).token_data × (u.layout.queue.done + 1 < 2 ^ 64) × (u.taken + length (group_tokens y) < 2 ^ 128)
 can_hand H s u direct waits y None w = let A = w.1 in (A.room, A.words, done_there H s u w.0 y A.laid A.far A.says A.few, few_there H s u w.0 y A.laid A.far A.says A.few)
 can_hand H s u direct waits y (Some t) B =
     let r = B.room in
@@ -332,32 +332,32 @@ can_hand H s u direct waits y (Some t) B =
     (omega arith, B.words, omega arith, omega arith)
 
 -- with what decides it
-pub both_laid : (H : List Laid) (s u : scanner_t) (direct waits : Bool) (y : group_t) (o : Option code_token_t) (z : code_token_t) → o ≡ Some z → WasLaidWith H s u direct waits y o → IsLaidBoth H s u direct waits y z
+pub both_laid : (H : List Laid) (s u : Scanner) (direct waits : Bool) (y : group_t) (o : Option code_token_t) (z : code_token_t) → o ≡ Some z → WasLaidWith H s u direct waits y o → IsLaidBoth H s u direct waits y z
 both_laid H s u direct waits y o z e w = subst (λ (p : Option code_token_t). WasLaidWith H s u direct waits y p) e w
 
 -- it was handed on alone
-pub alone_handed : (H : List Laid) (s u : scanner_t) (direct : Bool) (k : Kind) (waits : Bool) (y : group_t) → IsLaidAlone H s u k waits y → (t : scanner_t) (took : List yaml_token_t → Type 0) (refuses : Type 0) (o : Result (Unit {0}) stop_t) → IsHandedOn direct waits u t y took refuses o → LaysTo H s t direct took refuses (made_by 1 o)
+pub alone_handed : (H : List Laid) (s u : Scanner) (direct : Bool) (k : Kind) (waits : Bool) (y : group_t) → IsLaidAlone H s u k waits y → (t : Scanner) (took : List yaml_token_t → Type 0) (refuses : Type 0) (o : Result (Unit {0}) stop_t) → IsHandedOn direct waits u t y took refuses o → LaysTo H s t direct took refuses (made_by 1 o)
 alone_handed H s u direct k waits y A t took refuses o g = one_handed H s u k y A.laid A.far A.says direct waits A.last A.awaited A.alone t took refuses o g
 
-pub alone_done : (H : List Laid) (s u : scanner_t) (direct waits : Bool) (y : group_t) (o : Option code_token_t) → o ≡ None → WasLaidWith H s u direct waits y o → (t : scanner_t) (took : List yaml_token_t → Type 0) (refuses : Type 0) (r : Result (Unit {0}) stop_t) → IsHandedOn direct waits u t y took refuses r → LaysTo H s t direct took refuses (made_by 1 r)
+pub alone_done : (H : List Laid) (s u : Scanner) (direct waits : Bool) (y : group_t) (o : Option code_token_t) → o ≡ None → WasLaidWith H s u direct waits y o → (t : Scanner) (took : List yaml_token_t → Type 0) (refuses : Type 0) (r : Result (Unit {0}) stop_t) → IsHandedOn direct waits u t y took refuses r → LaysTo H s t direct took refuses (made_by 1 r)
 alone_done H s u direct waits y o e w t took refuses r g =
     let v : WasLaidWith H s u direct waits y None = subst (λ (p : Option code_token_t). WasLaidWith H s u direct waits y p) e w in
     alone_handed H s u direct v.0 waits y v.1 t took refuses r g
 
 -- or a token of it was refused
-pub cut_done : (H : List Laid) (s u : scanner_t) (direct waits : Bool) (y : group_t) (o : Option code_token_t) → WasLaidWith H s u direct waits y o → (t : scanner_t) (took : List yaml_token_t → Type 0) (refuses : Type 0) (stop : stop_t) → IsHandedOn direct waits u t y took refuses (Err stop) → LaysTo H s t direct took refuses (Err stop)
+pub cut_done : (H : List Laid) (s u : Scanner) (direct waits : Bool) (y : group_t) (o : Option code_token_t) → WasLaidWith H s u direct waits y o → (t : Scanner) (took : List yaml_token_t → Type 0) (refuses : Type 0) (stop : stop_t) → IsHandedOn direct waits u t y took refuses (Err stop) → LaysTo H s t direct took refuses (Err stop)
 cut_done H s u direct waits y None w t took refuses stop g = alone_done H s u direct waits y None refl w t took refuses (Err stop) g
 cut_done H s u direct waits y (Some z) B t took refuses stop g = first_cut H s u direct waits y z B u t took refuses stop g
 
 -- what was given of both: nothing, or all, for which there was room
-pub both_given : (direct waits : Bool) (u t v : scanner_t) (y z : group_t) (k l : List yaml_token_t) → IsHanded direct waits u t y k → IsHanded direct waits t v z l → ((k ≡ []) × (l ≡ [])) ⊎ ((waits ≡ false) × (k ≡ group_tokens y) × (l ≡ group_tokens z))
+pub both_given : (direct waits : Bool) (u t v : Scanner) (y z : group_t) (k l : List yaml_token_t) → IsHanded direct waits u t y k → IsHanded direct waits t v z l → ((k ≡ []) × (l ≡ [])) ⊎ ((waits ≡ false) × (k ≡ group_tokens y) × (l ≡ group_tokens z))
 both_given direct waits u t v y z k l (inl p) (inl q) = inl (p.1, q.1)
 both_given direct waits u t v y z k l (inl p) (inr q) = absurd (false≢true (sym q.1 ∙ p.0 q.0))
 both_given direct waits u t v y z k l (inr p) (inl q) = absurd (false≢true (sym p.1 ∙ q.0 p.0))
 both_given direct waits u t v y z k l (inr p) (inr q) = inr (p.1, p.2, q.2)
 
 -- WHAT COMES RIGHT AFTER A CANDIDATE
-module _ (H : List Laid) (s : scanner_t) (r : step_t) (x : yaml_lexeme_t) (c : CanLayAll H s r x) (candidate : is_candidate_kind r.kind ≡ true) (k : Kind) (w : yaml_lexeme_t) (d : (p : ℕ) → IsMarkOf s.text.chars x.reach p → IsDecider s.text.chars r.in_flow p k w) where
+module _ (H : List Laid) (s : Scanner) (r : step_t) (x : yaml_lexeme_t) (c : CanLayAll H s r x) (candidate : is_candidate_kind r.kind ≡ true) (k : Kind) (w : yaml_lexeme_t) (d : (p : ℕ) → IsMarkOf s.text.chars x.reach p → IsDecider s.text.chars r.in_flow p k w) where
   decider_there : IsDecider s.text.chars r.in_flow (read_place H s r x c candidate).0 k w
   decider_there = let p = read_place H s r x c candidate in d p.0 p.1
 
@@ -388,7 +388,7 @@ module _ (H : List Laid) (s : scanner_t) (r : step_t) (x : yaml_lexeme_t) (c : C
       ap said_len e ∙ decider_silent s.text.chars r.in_flow k 0 None p.0 w q.decides (q.read 0 None)
 
 -- WHAT FOLLOWS, WAITING OR NOT
-module _ (s : scanner_t) (sparing : Bool) (r : step_t) (at : yaml_mark_t) where
+module _ (s : Scanner) (sparing : Bool) (r : step_t) (at : yaml_mark_t) where
   pub follower_candidate : (waits : Bool) (k : Kind) (w : yaml_lexeme_t) → IsFollower s sparing r at waits k w → is_candidate_kind r.kind ≡ true
   follower_candidate true k w f = let u = f.waits in u.candidate
   follower_candidate false k w f = let u = f.undecided in u.candidate
@@ -417,7 +417,7 @@ module _ (s : scanner_t) (sparing : Bool) (r : step_t) (at : yaml_mark_t) where
   follower_alone false k w f z q e = ap (λ (i : queue_t). i.groups.items) e ∙ (let u = f.undecided in u.alone)
 
 -- fewer groups were taken than steps can be made
-pub few_queued : (H : List Laid) (s : scanner_t) → CanStep H s → s.layout.queue.done + 1 < 2 ^ 64
+pub few_queued : (H : List Laid) (s : Scanner) → CanStep H s → s.layout.queue.done + 1 < 2 ^ 64
 few_queued H s c = let a = c.holds.count in let b = c.holds.number in let d = c.few_steps in omega arith
 
 -- GROUPS THAT GO TO A SINK IF IT HAS ROOM
@@ -438,7 +438,7 @@ few_given y z n m E O K f a b =
     (omega arith, omega arith)
 
 -- what is known if a group went into the queue, and if it went to the sink
-pub known_after : (D waits : Bool) (u t : scanner_t) (y : group_t) (took : List yaml_token_t → Type 0) (refuses W : Type 0) → (took [] → W) → (waits ≡ false → took (group_tokens y) → W) → (o : Result (Unit {0}) stop_t) → IsHandedOn D waits u t y took refuses o → OnOk o W
+pub known_after : (D waits : Bool) (u t : Scanner) (y : group_t) (took : List yaml_token_t → Type 0) (refuses W : Type 0) → (took [] → W) → (waits ≡ false → took (group_tokens y) → W) → (o : Result (Unit {0}) stop_t) → IsHandedOn D waits u t y took refuses o → OnOk o W
 known_after D waits u t y took refuses W none all (Ok x) w = elim w.1 [
   | inl p ↦ none (subst took p.1 w.2)
   | inr p ↦ all p.1 (subst took p.2 w.2)
@@ -452,11 +452,11 @@ not_queued false true e = (refl, refl)
 not_queued false false e = absurd (false≢true (sym e))
 
 -- THE NUMBER OF STEPS
-pub laid_few : (H : List Laid) (s u : scanner_t) (direct waits : Bool) (y : group_t) (o : Option code_token_t) → WasLaidWith H s u direct waits y o → s.made + 2 < 2 ^ 64
+pub laid_few : (H : List Laid) (s u : Scanner) (direct waits : Bool) (y : group_t) (o : Option code_token_t) → WasLaidWith H s u direct waits y o → s.made + 2 < 2 ^ 64
 laid_few H s u direct waits y None w = let A = w.1 in A.few
 laid_few H s u direct waits y (Some z) B = B.few
 
-made_by_laid : (sparing : Bool) (H : List Laid) (s t : scanner_t) (zs : List group_t) (n : ℕ) → IsLaidBy sparing H s t zs n → (t.made ≡ s.made) × (n ≤ 2)
+made_by_laid : (sparing : Bool) (H : List Laid) (s t : Scanner) (zs : List group_t) (n : ℕ) → IsLaidBy sparing H s t zs n → (t.made ≡ s.made) × (n ≤ 2)
 made_by_laid sparing H s t zs n (inl w) = let a = w.1 in let e = a.made in let f = w.0 in (e, omega arith)
 made_by_laid sparing H s t zs n (inr w) =
     let a = w.1.0.0 in
@@ -464,12 +464,12 @@ made_by_laid sparing H s t zs n (inr w) =
     let f = a.second.made in
     let g = w.0 in (omega arith, omega arith)
 
-made_of : (direct sparing : Bool) (m : scanner_t) (zs : List group_t) (t : scanner_t) (tokens : List yaml_token_t) → HandsOut direct sparing m zs t tokens → t.made ≡ m.made
-made_of direct sparing m zs t tokens (inl w) = ap (λ (z : scanner_t). z.made) w.2
+made_of : (direct sparing : Bool) (m : Scanner) (zs : List group_t) (t : Scanner) (tokens : List yaml_token_t) → HandsOut direct sparing m zs t tokens → t.made ≡ m.made
+made_of direct sparing m zs t tokens (inl w) = ap (λ (z : Scanner). z.made) w.2
 made_of direct sparing m zs t tokens (inr w) = let e = w.1 in e.made
 
 -- there is room for what is counted
-pub few_made : (H : List Laid) (s t : scanner_t) (direct : Bool) (took : List yaml_token_t → Type 0) (refuses : Type 0) (n : ℕ) → LaysTo H s t direct took refuses (Ok n) → s.made + 2 < 2 ^ 64 → t.made + n < 2 ^ 64
+pub few_made : (H : List Laid) (s t : Scanner) (direct : Bool) (took : List yaml_token_t → Type 0) (refuses : Type 0) (n : ℕ) → LaysTo H s t direct took refuses (Ok n) → s.made + 2 < 2 ^ 64 → t.made + n < 2 ^ 64
 few_made H s t direct took refuses n w l =
     let a = made_by_laid w.3 H s w.1 w.2 n w.4 in
     let b = made_of direct w.3 w.1 w.2 t w.0 w.5 in

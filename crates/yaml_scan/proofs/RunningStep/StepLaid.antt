@@ -10,7 +10,7 @@ use Rattle.yaml_lexeme.specs.Place.{place_at}
 use Rattle.yaml_lexeme.specs.Counted.{IsMarkOf}
 use Rattle.yaml_scan.specs.inside.StepParts.{read_step, after_read}
 use Rattle.yaml_scan.specs.Course.{ended}
-use Rattle.yaml_scan.specs.declared.scanner.scanner_t.{scanner_t}
+use Rattle.yaml_scan.specs.inside.Scanner.{Scanner}
 use Rattle.yaml_scan.specs.inside.Scanning.{Met}
 use Rattle.yaml_scan.specs.declared.groups.group_t.{group_t}
 use Rattle.yaml_text.specs.Token.{token_of}
@@ -167,7 +167,7 @@ opened_less limit H x n in_flow cs (Some c) e h f l a = go (is_new in_flow c.lex
     go false = a
 
 -- THE STEP
-module _ (H : List Laid) (N : ℕ) (s : scanner_t) {ys : List group_t} (r : HoldsWith H N s ys) (running : ended H ≡ false) (m : Met) (w : IsMet H s m) (in_flow : Bool) (FLOW : in_flow ≡ nat_lt 0 (vec_len s.slots.outer))
+module _ (H : List Laid) (N : ℕ) (s : Scanner) {ys : List group_t} (r : HoldsWith H N s ys) (running : ended H ≡ false) (m : Met) (w : IsMet H s m) (in_flow : Bool) (FLOW : in_flow ≡ nat_lt 0 (vec_len s.slots.outer))
     (start : yaml_mark_t) (START : start ≡ start_at m.kind m.front) where
   abbrev S : Source
   S = source_of s.text.chars

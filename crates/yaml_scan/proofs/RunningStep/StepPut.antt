@@ -9,7 +9,7 @@ use Rattle.yaml_scan.specs.declared.groups.group_t.{group_t}
 use Rattle.yaml_scan.specs.declared.slots.slots_t.{slots_t}
 use Rattle.yaml_scan.specs.declared.levels.layout_t.{layout_t}
 use Rattle.yaml_scan.specs.inside.Scanning.{Met}
-use Rattle.yaml_scan.specs.declared.scanner.scanner_t.{scanner_t}
+use Rattle.yaml_scan.specs.inside.Scanner.{Scanner}
 use Rattle.yaml_scan.specs.Allowed.{allows}
 use Rattle.yaml_scan.specs.Groups.{end_at}
 use Rattle.yaml_scan.specs.Groups.Token.{BlockEnd}
@@ -26,7 +26,7 @@ use Rattle.yaml_scan.proofs.RunningQueue.QueueGroups.{front_free}
 use Rattle.yaml_scan.proofs.RunningStep.StepLaid.{history, place_within, index_is, place_then, levels_then, columns_then, queue_then, allowed_then, step_reads, fresh_then, outer_then, top_then, taken_then, reach_then, number_then, early_then}
 
 -- the scanner with other slots and another layout, after what was read to a mark
-abbrev pub put_in : scanner_t → slots_t → Bool → layout_t → yaml_mark_t → scanner_t
+abbrev pub put_in : Scanner → slots_t → Bool → layout_t → yaml_mark_t → Scanner
 put_in s S a L reach = record {
   alloc = s.alloc;
   text = s.text;
@@ -39,14 +39,13 @@ put_in s S a L reach = record {
   reach = reach;
   front = s.front;
   there = s.there;
-  kept = s.kept;
   taken = s.taken;
   made = s.made;
 }
 
 -- These are the slots, whether a key is allowed, the layout and the groups after the lexeme x, of which `new` is kept. The groups
 -- before it are ys.
-pub record IsPut (s : scanner_t) (ys : List group_t) (m : Met) (in_flow : Bool) (new : Held) (x : yaml_lexeme_t) (S : slots_t) (a : Bool) (L : layout_t) (zs : List group_t) : Type 0 where
+pub record IsPut (s : Scanner) (ys : List group_t) (m : Met) (in_flow : Bool) (new : Held) (x : yaml_lexeme_t) (S : slots_t) (a : Bool) (L : layout_t) (zs : List group_t) : Type 0 where
   pub kept : List ℕ
   pub kept_is : reverse kept ≡ filter (stays in_flow m.kind new.start) (reverse s.layout.levels.items)
   pub early : ℕ
@@ -73,7 +72,7 @@ pub record IsPut (s : scanner_t) (ys : List group_t) (m : Met) (in_flow : Bool) 
   pub awaited : S.awaited ≡ step_of (lowest (S.outer.items ++ S.top ∷ []))
   pub allows : (d : ℕ) → in_flow ≡ nat_lt 0 d → a ≡ allows m.kind d none x.passed_break
 
-pub put_advances : (H : List Laid) (s : scanner_t) (ys : List group_t) (m : Met) (in_flow : Bool) (new : Held) (x : yaml_lexeme_t) → CanPut H s ys m in_flow new x
+pub put_advances : (H : List Laid) (s : Scanner) (ys : List group_t) (m : Met) (in_flow : Bool) (new : Held) (x : yaml_lexeme_t) → CanPut H s ys m in_flow new x
     → (S : slots_t) (a : Bool) (L : layout_t) (zs : List group_t) → IsPut s ys m in_flow new x S a L zs → IsLaidAs H s m.kind (put_in s S a L x.reach) zs
 put_advances H s ys m in_flow new x p S a L zs q = record {
   kind = refl;

@@ -10,7 +10,7 @@ use Rattle.yaml_lexeme.specs.Lexeme.{Lexeme as yaml_lexeme_t}
 use Rattle.yaml_lexeme.specs.Counted.{IsMarkOf}
 use Rattle.yaml_scan.specs.Step.{no_colon, no_token, in_next_token, in_simple_key}
 use Rattle.yaml_scan.specs.declared.met.step_t.{step_t}
-use Rattle.yaml_scan.specs.declared.scanner.scanner_t.{scanner_t}
+use Rattle.yaml_scan.specs.inside.Scanner.{Scanner}
 use Rattle.yaml_scan.specs.Kind.{Kind}
 use Rattle.yaml_scan.specs.Laid.{Laid, Lexeme}
 use Rattle.yaml_scan.specs.Levels.{greatest_level, stays}
@@ -44,17 +44,17 @@ none_or None e = refl
 none_or (Some a) e = cc
 
 -- the gap ends in the text
-pub front_line : (H : List Laid) (s : scanner_t) → length s.text.chars < 2 ^ 63 → IsMarkOf s.text.chars s.front (front_of (source_of s.text.chars) H) → s.front.line + 1 < 2 ^ 64
+pub front_line : (H : List Laid) (s : Scanner) → length s.text.chars < 2 ^ 63 → IsMarkOf s.text.chars s.front (front_of (source_of s.text.chars) H) → s.front.line + 1 < 2 ^ 64
 unfolding source_of
 front_line H s small i =
     let m = ap (λ (x : yaml_mark_t). x.line) i.mark_is in
     let t = text_sums s.text.chars (front_of (source_of s.text.chars) H) i.within in let w = i.within in omega arith
 
-pub falls_in : (H : List Laid) (n : ℕ) (s : scanner_t) → Holds H n s → IsFalling (reverse s.layout.levels.items)
+pub falls_in : (H : List Laid) (n : ℕ) (s : Scanner) → Holds H n s → IsFalling (reverse s.layout.levels.items)
 falls_in H n s r = rw r.levels (open_columns-falls s.limit H r.is_history)
 
 -- the candidate that is lost at the end of the gap
-pub lost_in_gap : (H : List Laid) (s : scanner_t) → CanStep H s → IsMarkOf s.text.chars s.front (front_of (source_of s.text.chars) H) → (h : Held)
+pub lost_in_gap : (H : List Laid) (s : Scanner) → CanStep H s → IsMarkOf s.text.chars s.front (front_of (source_of s.text.chars) H) → (h : Held)
     → lost_held s.limit s.front (root_of s.slots.outer.items s.slots.top) ≡ Some h → Offends H s (scanner_fault no_colon s.front (Some in_simple_key) h.start)
 lost_in_gap H s c i h e =
     let in_flow : Bool = nat_lt 0 (vec_len s.slots.outer) in
@@ -62,7 +62,7 @@ lost_in_gap H s c i h e =
     row_lost H (s.made + 1) s c.holds c.running in_flow refl s.front i root (lost_held s.limit s.front root) (scanner_fault no_colon s.front (Some in_simple_key) h.start)
     (root_held H (s.made + 1) s c.holds c.running in_flow refl root s.slots.outer.items refl refl) refl (rw e refl)
 
-module _ (H : List Laid) (s : scanner_t) (in_flow : Bool) (w : Passes H s in_flow) where
+module _ (H : List Laid) (s : Scanner) (in_flow : Bool) (w : Passes H s in_flow) where
   abbrev r : Holds H (s.made + 1) s
   r = w.can.holds
 
@@ -110,7 +110,7 @@ module _ (H : List Laid) (s : scanner_t) (in_flow : Bool) (w : Passes H s in_flo
     }
 
 -- what is kept of a lexeme is the same whenever it is asked
-new_same : (s : scanner_t) (q r : step_t) → q.kind ≡ r.kind → IsNewHeld s (met_in s q) q.in_flow q.context.level q.new → IsNewHeld s (met_in s r) r.in_flow r.context.level r.new → q.new ≡ r.new
+new_same : (s : Scanner) (q r : step_t) → q.kind ≡ r.kind → IsNewHeld s (met_in s q) q.in_flow q.context.level q.new → IsNewHeld s (met_in s r) r.in_flow r.context.level r.new → q.new ≡ r.new
 new_same s q r k a b =
     let f : q.in_flow ≡ r.in_flow = a.flow ∙ sym b.flow in
     let st : q.new.start ≡ r.new.start = a.start ∙ ap (λ (z : Kind). start_at z s.front) k ∙ sym b.start in
@@ -124,12 +124,12 @@ new_same s q r k a b =
     held_same : (h k : Held) → h.step ≡ k.step → h.start ≡ k.start → h.required ≡ k.required → h ≡ k
     held_same h k e f g = λ j. record { step = e j; start = f j; required = g j }
 
-pub root_same : (s : scanner_t) (q r : step_t) → q.kind ≡ r.kind → q.allowed ≡ r.allowed → IsNewHeld s (met_in s q) q.in_flow q.context.level q.new → IsNewHeld s (met_in s r) r.in_flow r.context.level r.new
+pub root_same : (s : Scanner) (q r : step_t) → q.kind ≡ r.kind → q.allowed ≡ r.allowed → IsNewHeld s (met_in s q) q.in_flow q.context.level q.new → IsNewHeld s (met_in s r) r.in_flow r.context.level r.new
     → root_of s.slots.outer.items (slot_after q.kind q.allowed q.new s.slots.top) ≡ root_of s.slots.outer.items (slot_after r.kind r.allowed r.new s.slots.top)
 root_same s q r k a b c = let n = new_same s q r k b c in rw (k, a, n) refl
 
 -- the candidate that is lost is found again
-pub lost_again : (s : scanner_t) (q r : step_t) → q.kind ≡ r.kind → q.allowed ≡ r.allowed → IsNewHeld s (met_in s q) q.in_flow q.context.level q.new → IsNewHeld s (met_in s r) r.in_flow r.context.level r.new
+pub lost_again : (s : Scanner) (q r : step_t) → q.kind ≡ r.kind → q.allowed ≡ r.allowed → IsNewHeld s (met_in s q) q.in_flow q.context.level q.new → IsNewHeld s (met_in s r) r.in_flow r.context.level r.new
     → (there m : yaml_mark_t) → there ≡ m → (root : Option Held) → root ≡ root_of s.slots.outer.items (slot_after r.kind r.allowed r.new s.slots.top) → (l : Option Held) → l ≡ lost_held s.limit there root
     → lost_after s.limit s.slots (met_in s q) q.new m ≡ l
 lost_again s q r k a b c there m t root R l L =
@@ -138,7 +138,7 @@ lost_again s q r k a b c there m t root R l L =
     ∙ sym L
 
 -- THE GAP
-abbrev pub at_front : scanner_t → yaml_mark_t → scanner_t
+abbrev pub at_front : Scanner → yaml_mark_t → Scanner
 at_front s m = record {
   alloc = s.alloc;
   text = s.text;
@@ -151,18 +151,17 @@ at_front s m = record {
   reach = s.reach;
   front = m;
   there = s.there;
-  kept = s.kept;
   taken = s.taken;
   made = s.made;
 }
 
-pub front_can : (H : List Laid) (s : scanner_t) (m : yaml_mark_t) → CanStep H s → CanStep H (at_front s m)
+pub front_can : (H : List Laid) (s : Scanner) (m : yaml_mark_t) → CanStep H s → CanStep H (at_front s m)
 front_can H s m c = record { holds = with_room H (s.made + 1) s (at_front s m) c.holds refl refl refl refl refl refl refl refl refl refl refl refl refl refl; running = c.running; small = c.small; few_steps = c.few_steps; near = c.near }
 
-pub front_stays : (s : scanner_t) (m : yaml_mark_t) → Stays s (at_front s m)
+pub front_stays : (s : Scanner) (m : yaml_mark_t) → Stays s (at_front s m)
 front_stays s m = record { same = record { text = refl; refusal = refl; near = refl; limit = refl; taken = refl; done = refl }; made = refl; reach = refl }
 
-module _ (H : List Laid) (s : scanner_t) (c : CanStep H s) (in_flow : Bool) (FLOW : in_flow ≡ nat_lt 0 (vec_len s.slots.outer)) (m : yaml_mark_t)
+module _ (H : List Laid) (s : Scanner) (c : CanStep H s) (in_flow : Bool) (FLOW : in_flow ≡ nat_lt 0 (vec_len s.slots.outer)) (m : yaml_mark_t)
     (G : (p : ℕ) → IsMarkOf s.text.chars s.reach p → IsMarkOf s.text.chars m ((source_of s.text.chars).gap in_flow s.allowed p)) where
   pub gap_front : IsMarkOf s.text.chars m (front_of (source_of s.text.chars) H)
   gap_front = front_mark H (s.made + 1) s c.holds c.running in_flow FLOW m (G (place_after H) (c.holds.place c.running))
@@ -178,7 +177,7 @@ module _ (H : List Laid) (s : scanner_t) (c : CanStep H s) (in_flow : Bool) (FLO
     gap_passed e = record { can = front_can H s m c; flow = FLOW; front = gap_front; none_lost = none_or (lost_held s.limit m (root_of s.slots.outer.items s.slots.top)) (sym lost_is ∙ e) }
 
 -- AFTER THE LEXEME
-module _ (H : List Laid) (s : scanner_t) (q : step_t) (c : CanRead H s q) where
+module _ (H : List Laid) (s : Scanner) (q : step_t) (c : CanRead H s q) where
   abbrev cs : List ℕ
   cs = filter (stays q.in_flow q.kind q.new.start) (reverse s.layout.levels.items)
 
@@ -231,7 +230,7 @@ module _ (H : List Laid) (s : scanner_t) (q : step_t) (c : CanRead H s q) where
             ends (Some h) v = ends_near H s (scanner_fault no_colon x.reach (Some in_simple_key) h.start) (stale_there h v) c.can.near f e l
 
 -- a lexeme that was read can be laid
-pub can_put : (H : List Laid) (s : scanner_t) (q : step_t) (x : yaml_lexeme_t) → CanLayAll H s q x → CanPut H s (groups_in s) (met_in s q) q.in_flow q.new x
+pub can_put : (H : List Laid) (s : Scanner) (q : step_t) (x : yaml_lexeme_t) → CanLayAll H s q x → CanPut H s (groups_in s) (met_in s q) q.in_flow q.new x
 can_put H s q x w = let c = w.can in record {
   can = record { holds = c.can.holds; running = c.can.running; small = c.can.small; few_steps = (let f = c.can.few_steps in omega arith); met = c.met };
   level = q.context.level;

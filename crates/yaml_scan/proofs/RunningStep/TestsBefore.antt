@@ -9,7 +9,7 @@ use Rattle.yaml_scan.specs.Step.{no_token, in_next_token}
 use Rattle.yaml_scan.specs.inside.StepParts.{kind_step, read_step}
 use Rattle.yaml_scan.specs.Course.{ended}
 use Rattle.yaml_scan.specs.declared.groups.group_t.{group_t}
-use Rattle.yaml_scan.specs.declared.scanner.scanner_t.{scanner_t}
+use Rattle.yaml_scan.specs.inside.Scanner.{Scanner}
 use Rattle.yaml_scan.specs.Kind.{Kind}
 use Rattle.yaml_scan.specs.Source.{Source, Offence}
 use Rattle.yaml_scan.specs.SourceOf.{source_of}
@@ -59,7 +59,7 @@ start_index k g = go (Rattle.yaml_scan.specs.Kind.is_stream_end k) (nat_eq g.col
     go true false = refl
     go false b = refl
 
-module _ (H : List Laid) (n : ℕ) (s : scanner_t) {ys : List group_t} (r : HoldsWith H n s ys) (running : ended H ≡ false) (in_flow : Bool) (FLOW : in_flow ≡ nat_lt 0 (vec_len s.slots.outer)) where
+module _ (H : List Laid) (n : ℕ) (s : Scanner) {ys : List group_t} (r : HoldsWith H n s ys) (running : ended H ≡ false) (in_flow : Bool) (FLOW : in_flow ≡ nat_lt 0 (vec_len s.slots.outer)) where
   pub flow_is : in_flow ≡ nat_lt 0 (depth H)
   flow_is = let e = ap (λ (l : List (Option Held)). length l) r.outer in let o = outer_length s.limit H (depth H) in let n : vec_len s.slots.outer ≡ depth H = omega arith in FLOW ∙ (rw n refl)
 

@@ -14,7 +14,7 @@ use Rattle.yaml_scan.specs.declared.groups.block_t.TheVariants.{NONE}
 use Rattle.yaml_scan.specs.declared.groups.group_t.{group_t}
 use Rattle.yaml_scan.specs.declared.slots.slots_t.{slots_t}
 use Rattle.yaml_scan.specs.declared.met.step_t.{step_t}
-use Rattle.yaml_scan.specs.declared.scanner.scanner_t.{scanner_t}
+use Rattle.yaml_scan.specs.inside.Scanner.{Scanner}
 use Rattle.yaml_scan.specs.Allowed.{allowed_after, allows}
 use Rattle.yaml_scan.specs.Depth.{depth}
 use Rattle.yaml_scan.specs.Kind.{Kind, is_candidate_kind, is_flow_end, is_flow_start, is_plain, is_stream_end, is_value}
@@ -126,18 +126,18 @@ live_before limit m h e =
     and_from _ _ (eq-eqb _ _ s) (le-leb _ _ u)
 
 -- WHAT COMES RIGHT AFTER A LEXEME
-pub follower : (s : scanner_t) (sparing : Bool) (r : step_t) (at : yaml_mark_t) (w : Bool) (k : Kind) (x : yaml_lexeme_t) → IsFollowed s sparing r at w → ((p : ℕ) → IsMarkOf s.text.chars at p → IsDecider s.text.chars r.in_flow p k x) → x.reach ≡ one_on at → x.reach.index < s.near
+pub follower : (s : Scanner) (sparing : Bool) (r : step_t) (at : yaml_mark_t) (w : Bool) (k : Kind) (x : yaml_lexeme_t) → IsFollowed s sparing r at w → ((p : ℕ) → IsMarkOf s.text.chars at p → IsDecider s.text.chars r.in_flow p k x) → x.reach ≡ one_on at → x.reach.index < s.near
     → (w ≡ true → (h : Held) × ((slice_get s.slots.outer.items s.slots.not_simple_keys ≡ Some (Some h)) × (is_live s.limit x.reach h ≡ true))) → IsFollower s sparing r at w k x
 follower s sparing r at true k x f d m l o = record { waits = f; reach = m; outer = o refl; decider = d; far = l }
 follower s sparing r at false k x f d m l o = record { undecided = f; decider = d; far = l }
 
 -- the lexeme is a candidate
-pub followed_kind : (s : scanner_t) (sparing : Bool) (r : step_t) (at : yaml_mark_t) (w : Bool) → IsFollowed s sparing r at w → is_candidate_kind r.kind ≡ true
+pub followed_kind : (s : Scanner) (sparing : Bool) (r : step_t) (at : yaml_mark_t) (w : Bool) → IsFollowed s sparing r at w → is_candidate_kind r.kind ≡ true
 followed_kind s sparing r at true f = f.candidate
 followed_kind s sparing r at false f = f.candidate
 
 -- what comes right after a lexeme enters no depth
-pub follower_no_start : (H : List Laid) (s : scanner_t) (r : step_t) (x : yaml_lexeme_t) → CanLayAll H s r x → (sparing w : Bool) (k : Kind) (y : yaml_lexeme_t) → IsFollower s sparing r x.reach w k y → is_flow_start k ≡ false
+pub follower_no_start : (H : List Laid) (s : Scanner) (r : step_t) (x : yaml_lexeme_t) → CanLayAll H s r x → (sparing w : Bool) (k : Kind) (y : yaml_lexeme_t) → IsFollower s sparing r x.reach w k y → is_flow_start k ≡ false
 follower_no_start H s r x c sparing true k y f =
     let i = read_place H s r x c f.waits.candidate in
     decider_no_start r.in_flow k (f.decider i.0 i.1).decides
@@ -146,7 +146,7 @@ follower_no_start H s r x c sparing false k y f =
     decider_no_start r.in_flow k (f.decider i.0 i.1).decides
 
 -- BOTH
-module _ (H : List Laid) (s : scanner_t) (r : step_t) (x : yaml_lexeme_t) (c : CanLayAll H s r x) (k : Kind) (y : yaml_lexeme_t) (d : IsWaiting s r x.reach k y) where
+module _ (H : List Laid) (s : Scanner) (r : step_t) (x : yaml_lexeme_t) (c : CanLayAll H s r x) (k : Kind) (y : yaml_lexeme_t) (d : IsWaiting s r x.reach k y) where
   abbrev h : Holds H (s.made + 1) s
   h = c.can.can.holds
 
@@ -210,8 +210,8 @@ module _ (H : List Laid) (s : scanner_t) (r : step_t) (x : yaml_lexeme_t) (c : C
     abbrev then_allowed : Bool
     then_allowed = is_plain r.kind && x.passed_break
 
-    abbrev between : scanner_t
-    between = record { alloc = s.alloc; text = s.text; refusal = s.refusal; near = s.near; limit = s.limit; slots = slots; allowed = then_allowed; layout = s.layout; reach = x.reach; front = s.front; there = s.there; kept = s.kept; taken = s.taken; made = s.made }
+    abbrev between : Scanner
+    between = record { alloc = s.alloc; text = s.text; refusal = s.refusal; near = s.near; limit = s.limit; slots = slots; allowed = then_allowed; layout = s.layout; reach = x.reach; front = s.front; there = s.there; taken = s.taken; made = s.made }
 
     first : IsLaidAs H s r.kind between (ys ++ group ∷ [])
     first = put_advances H s ys (met_in s r) r.in_flow new x canput slots then_allowed s.layout (ys ++ group ∷ []) record {
@@ -338,8 +338,8 @@ module _ (H : List Laid) (s : scanner_t) (r : step_t) (x : yaml_lexeme_t) (c : C
     module _ (value : yaml_token_t) (SAYS : token_of value ≡ record { token_data = y.token_data; start_mark = front; end_mark = y.end_mark })
         (S : slots_t) (OUTER : S.outer.items ≡ nested_outer k outer None) (TOP : S.top ≡ nested_top k outer None) (EMPTY : S.not_simple_keys ≡ s.slots.not_simple_keys) (AWAITED : S.awaited ≡ s.slots.awaited)
         (a : Bool) (ALLOWED : (n : ℕ) → r.in_flow ≡ nat_lt 0 n → a ≡ allows k n (not key) false) where
-      abbrev pub after : scanner_t
-      after = record { alloc = s.alloc; text = s.text; refusal = s.refusal; near = s.near; limit = s.limit; slots = S; allowed = a; layout = s.layout; reach = y.reach; front = s.front; there = s.there; kept = s.kept; taken = s.taken; made = s.made + 1 }
+      abbrev pub after : Scanner
+      after = record { alloc = s.alloc; text = s.text; refusal = s.refusal; near = s.near; limit = s.limit; slots = S; allowed = a; layout = s.layout; reach = y.reach; front = s.front; there = s.there; taken = s.taken; made = s.made + 1 }
 
       -- its group, once that is known
       abbrev pub keyed_group : group_t
@@ -383,11 +383,11 @@ module _ (H : List Laid) (s : scanner_t) (r : step_t) (x : yaml_lexeme_t) (c : C
         allows = λ n e. ALLOWED n e ∙ allows_same r.in_flow k n (not key) y.passed_break decider.decides;
       }
 
-      pub twice : (zs : List group_t) → zs ≡ ys ++ keyed_group ∷ (last ∷ []) → (t : scanner_t) → counted t ≡ after → LaysTwo true H s t zs
+      pub twice : (zs : List group_t) → zs ≡ ys ++ keyed_group ∷ (last ∷ []) → (t : Scanner) → counted t ≡ after → LaysTwo true H s t zs
       twice zs Z t T =
           let a : AdvancesTwice H s after (ys ++ keyed_group ∷ (last ∷ [])) = record { between = between; then_queued = ys ++ group ∷ []; first = first.advances; running = then_running; far = c.far; second = second.advances } in
           let b : (b : AdvancesTwice H s after (ys ++ keyed_group ∷ (last ∷ []))) × Needs true H s after (ys ++ keyed_group ∷ (last ∷ [])) b = (a, λ z. then_needed) in (
             subst (λ (z : List group_t). (b : AdvancesTwice H s (counted t) z) × Needs true H s (counted t) z b) (sym Z)
-                (subst (λ (w : scanner_t). (b : AdvancesTwice H s w (ys ++ keyed_group ∷ (last ∷ []))) × Needs true H s w (ys ++ keyed_group ∷ (last ∷ [])) b) (sym T) b),
-            subst (λ (m : yaml_mark_t). m.index < s.near) (sym (ap (λ (w : scanner_t). w.reach) T)) d.far,
+                (subst (λ (w : Scanner). (b : AdvancesTwice H s w (ys ++ keyed_group ∷ (last ∷ []))) × Needs true H s w (ys ++ keyed_group ∷ (last ∷ [])) b) (sym T) b),
+            subst (λ (m : yaml_mark_t). m.index < s.near) (sym (ap (λ (w : Scanner). w.reach) T)) d.far,
           )

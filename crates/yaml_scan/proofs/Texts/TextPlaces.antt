@@ -23,7 +23,7 @@ use Rattle.std.specs.Option.{IfSome}
 use Rattle.std.specs.Prelude.{is_err}
 use Rattle.yaml_text.specs.Chars.{utf8}
 use Rattle.yaml_lexeme.proofs.MarkOrder.SmallReadersAhead.{gap_order}
-use Rattle.yaml_scan.specs.declared.scanner.scanner_t.{scanner_t}
+use Rattle.yaml_scan.specs.inside.Scanner.{Scanner}
 use Rattle.yaml_scan.specs.Kind.{Kind}
 use Rattle.yaml_scan.specs.SourceOf.{source_of, count_to, reading, reading_of}
 use Rattle.yaml_scan.specs.inside.Scanning.{IsReadIn}
@@ -109,13 +109,13 @@ decider_there cs at flow k x d g f a = λ p i. record {
 }
 
 -- what a reader returns is what is read of the text
-pub reads_in : (s : scanner_t) (k : Kind) (x : yaml_context_t) (there : yaml_mark_t) (o : Result code_lexeme_t yaml_refusal_t)
+pub reads_in : (s : Scanner) (k : Kind) (x : yaml_context_t) (there : yaml_mark_t) (o : Result code_lexeme_t yaml_refusal_t)
     → ((p : ℕ) → IsMarkOf s.text.chars s.front p → ReadsAs lexeme_of k s.front there o (lexeme_at k x (place_at s.text.chars p))) → IsReadIn s k x there o
 reads_in s k x there (Ok l) f = λ p i. read_there s.text.chars k x.depth x.level p (lexeme_of l) (f p i)
 reads_in s k x there (Err r) f = λ p i. elim (f p i) [ inl m ↦ inl m | inr a ↦ inr (offence_there s.text.chars k x.depth x.level p (refused_at k s.front there r) a) ]
 
 -- a lexeme that was read needs no mark of an offence
-pub reads_well : (s : scanner_t) (k : Kind) (x : yaml_context_t) (there other : yaml_mark_t) (o : Result code_lexeme_t yaml_refusal_t) → is_err o ≡ false
+pub reads_well : (s : Scanner) (k : Kind) (x : yaml_context_t) (there other : yaml_mark_t) (o : Result code_lexeme_t yaml_refusal_t) → is_err o ≡ false
     → ((p : ℕ) → IsMarkOf s.text.chars s.front p → ReadsAs lexeme_of k s.front there o (lexeme_at k x (place_at s.text.chars p))) → IsReadIn s k x other o
 reads_well s k x there other (Ok l) e f = reads_in s k x other (Ok l) f
 reads_well s k x there other (Err r) e f = cc

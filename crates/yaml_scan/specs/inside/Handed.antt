@@ -15,7 +15,7 @@ use Rattle.yaml_scan.specs.declared.groups.block_t.{block_t}
 use Rattle.yaml_scan.specs.declared.groups.block_t.TheVariants.{NONE, SEQUENCE, MAPPING}
 use Rattle.yaml_scan.specs.declared.groups.group_t.{group_t}
 use Rattle.yaml_scan.specs.declared.groups.queue_t.{queue_t}
-use Rattle.yaml_scan.specs.declared.scanner.scanner_t.{scanner_t}
+use Rattle.yaml_scan.specs.inside.Scanner.{Scanner}
 use Rattle.yaml_scan.specs.Begins.{Begins}
 use Rattle.yaml_scan.specs.Groups.{Token, handed_out}
 use Rattle.yaml_scan.specs.Kind.{Kind, is_stream_end}
@@ -83,7 +83,7 @@ pub record IsPushed (q : queue_t) (y : group_t) (r : queue_t) : Type 0 where
   pub front : r.front ≡ q.front
 
 -- the same scanner with another queue, of which n tokens were taken
-abbrev pub set_queue : scanner_t → queue_t → ℕ → scanner_t
+abbrev pub set_queue : Scanner → queue_t → ℕ → Scanner
 set_queue s q n = record {
   alloc = s.alloc;
   text = s.text;
@@ -96,12 +96,11 @@ set_queue s q n = record {
   reach = s.reach;
   front = s.front;
   there = s.there;
-  kept = s.kept;
   taken = n;
   made = s.made;
 }
 
-abbrev pub with_queue : scanner_t → queue_t → scanner_t
+abbrev pub with_queue : Scanner → queue_t → Scanner
 with_queue s q = set_queue s q s.taken
 
 -- the same queue, of which one group more was taken
@@ -109,7 +108,7 @@ abbrev pub one_done : queue_t → queue_t
 one_done q = record { groups = q.groups; done = q.done + 1; early = q.early; front = q.front }
 
 -- A group was queued, or, unless it had to wait, these tokens of it were given, which are all.
-abbrev pub IsHanded : Bool → Bool → scanner_t → scanner_t → group_t → List yaml_token_t → Type 0
+abbrev pub IsHanded : Bool → Bool → Scanner → Scanner → group_t → List yaml_token_t → Type 0
 IsHanded direct waits s t y tokens = ((direct ≡ true → waits ≡ true) × (tokens ≡ [])
     × IsPushed s.layout.queue y t.layout.queue × (t ≡ with_queue s t.layout.queue))
     ⊎ ((direct ≡ true) × (waits ≡ false) × (tokens ≡ group_tokens y)
@@ -117,7 +116,7 @@ IsHanded direct waits s t y tokens = ((direct ≡ true → waits ≡ true) × (t
 
 -- the same, or the sink refused a token of the group
 abbrev pub IsHandedOn
-    : Bool → Bool → scanner_t → scanner_t → group_t → (List yaml_token_t → Type 0) → Type 0 → Result (Unit {0}) stop_t
+    : Bool → Bool → Scanner → Scanner → group_t → (List yaml_token_t → Type 0) → Type 0 → Result (Unit {0}) stop_t
     → Type 0
 IsHandedOn direct waits s t y took refuses o = MatchResult o
     (λ _. (tokens : List yaml_token_t) × IsHanded direct waits s t y tokens × took tokens)
@@ -125,14 +124,14 @@ IsHandedOn direct waits s t y took refuses o = MatchResult o
 
 -- These are all tokens of the groups zs, for none of which a candidate is awaited, and the stream end is not among
 -- them.
-pub record AllSettled (s : scanner_t) (zs : List group_t) (tokens : List yaml_token_t) : Type 0 where
+pub record AllSettled (s : Scanner) (zs : List group_t) (tokens : List yaml_token_t) : Type 0 where
   pub awaited : s.slots.awaited ≡ 0
   pub early : s.layout.queue.early ≡ 0
   pub tokens_are : tokens ≡ groups_tokens zs
   pub no_end : list_any is_end tokens ≡ false
 
 -- t is s after all tokens of the groups zs, which it would have queued, were handed out
-pub record Empties (s : scanner_t) (zs : List group_t) (t : scanner_t) (tokens : List yaml_token_t) : Type 0 where
+pub record Empties (s : Scanner) (zs : List group_t) (t : Scanner) (tokens : List yaml_token_t) : Type 0 where
   pub all : AllSettled s zs tokens
   pub text : t.text ≡ s.text
   pub refusal : t.refusal ≡ s.refusal
@@ -150,12 +149,12 @@ pub record Empties (s : scanner_t) (zs : List group_t) (t : scanner_t) (tokens :
 
 -- A scanner that has queued the groups zs, or has handed out all of them. If they are queued, no more steps were made
 -- than the next token needs.
-abbrev pub HandsOut : Bool → Bool → scanner_t → List group_t → scanner_t → List yaml_token_t → Type 0
+abbrev pub HandsOut : Bool → Bool → Scanner → List group_t → Scanner → List yaml_token_t → Type 0
 HandsOut direct sparing s zs t tokens = ((sparing ≡ true) × (tokens ≡ []) × (t ≡ s) × (zs ≡ groups_in s))
     ⊎ ((direct ≡ true) × Empties s zs t tokens)
 
 -- a lexeme of kind k was laid, if the groups zs are queued then
-pub record IsLaidAs (H : List Laid) (s : scanner_t) (k : Kind) (t : scanner_t) (zs : List group_t) : Type 0 where
+pub record IsLaidAs (H : List Laid) (s : Scanner) (k : Kind) (t : Scanner) (zs : List group_t) : Type 0 where
   pub advances : AdvancesWith H s t zs
   pub kind : advances.lexeme.kind ≡ k
 
@@ -166,21 +165,21 @@ made_by n (Err stop) = Err stop
 
 -- A step was laid, or two, which are not counted yet, and handed on; or the sink refused a token of them.
 abbrev pub LaysTo
-    : List Laid → scanner_t → scanner_t → Bool → (List yaml_token_t → Type 0) → Type 0 → Result ℕ stop_t → Type 0
+    : List Laid → Scanner → Scanner → Bool → (List yaml_token_t → Type 0) → Type 0 → Result ℕ stop_t → Type 0
 LaysTo H s t direct took refuses o = MatchResult o
-    (λ n. (tokens : List yaml_token_t) × (m : scanner_t) × (zs : List group_t) × (sparing : Bool)
+    (λ n. (tokens : List yaml_token_t) × (m : Scanner) × (zs : List group_t) × (sparing : Bool)
     × IsLaidBy sparing H s m zs n × HandsOut direct sparing m zs t tokens × took tokens)
-    (λ stop. (stop ≡ SINK) × ((n : ℕ) × (tokens : List yaml_token_t) × (m : scanner_t) × (zs : List group_t)
+    (λ stop. (stop ≡ SINK) × ((n : ℕ) × (tokens : List yaml_token_t) × (m : Scanner) × (zs : List group_t)
     × IsLaidBy false H s m zs n × (direct ≡ true) × AllSettled m zs tokens × IsCut took tokens) × refuses)
 
 -- A step was made, or two, and handed on; or it stopped; or the sink refused a token of it.
 abbrev pub StepsTo
-    : List Laid → scanner_t → scanner_t → Bool → (List yaml_token_t → Type 0) → Type 0 → Result (Unit {0}) stop_t
+    : List Laid → Scanner → Scanner → Bool → (List yaml_token_t → Type 0) → Type 0 → Result (Unit {0}) stop_t
     → Type 0
 StepsTo H s t direct took refuses o = MatchResult o
-    (λ _. (tokens : List yaml_token_t) × (m : scanner_t) × (zs : List group_t) × (sparing : Bool)
+    (λ _. (tokens : List yaml_token_t) × (m : Scanner) × (zs : List group_t) × (sparing : Bool)
     × Makes sparing H s m zs × HandsOut direct sparing m zs t tokens × took tokens)
-    (λ stop. (Refuses H s t stop × took []) ⊎ ((stop ≡ SINK) × ((tokens : List yaml_token_t) × (m : scanner_t)
+    (λ stop. (Refuses H s t stop × took []) ⊎ ((stop ≡ SINK) × ((tokens : List yaml_token_t) × (m : Scanner)
     × (zs : List group_t) × Makes false H s m zs × (direct ≡ true) × AllSettled m zs tokens
     × IsCut took tokens) × refuses))
 
@@ -201,7 +200,7 @@ abbrev pub group_with : ℕ → block_t → Bool → code_token_t → group_t
 group_with ends opens key t = record { ends = ends; opens = opens; key = key; token = t }
 
 -- A lexeme of kind k was laid as the group y, which is not handed on yet. Unless it has to wait, no token is before it.
-pub record IsLaidAlone (H : List Laid) (s t : scanner_t) (k : Kind) (waits : Bool) (y : group_t) : Type 0 where
+pub record IsLaidAlone (H : List Laid) (s t : Scanner) (k : Kind) (waits : Bool) (y : group_t) : Type 0 where
   pub laid : IsLaidAs H s k t (groups_in t ++ y ∷ [])
   pub far : t.reach.index < s.near
   pub few : s.made + 2 < 2 ^ 64
@@ -214,7 +213,7 @@ pub record IsLaidAlone (H : List Laid) (s t : scanner_t) (k : Kind) (waits : Boo
   pub alone : waits ≡ false → groups_in t ≡ []
 
 -- a lexeme was laid as the group y, and what comes right after it as the token z, and they are not handed on yet
-pub record IsLaidBoth (H : List Laid) (s t : scanner_t) (direct waits : Bool) (y : group_t) (z : code_token_t)
+pub record IsLaidBoth (H : List Laid) (s t : Scanner) (direct waits : Bool) (y : group_t) (z : code_token_t)
     : Type 0 where
   pub laid : LaysTwo waits H s t (groups_in t ++ y ∷ (lone z ∷ []))
   pub few : s.made + 2 < 2 ^ 64
@@ -229,11 +228,11 @@ pub record IsLaidBoth (H : List Laid) (s t : scanner_t) (direct waits : Bool) (y
   pub alone : waits ≡ false → groups_in t ≡ []
 
 -- what a step has laid, which is not handed on yet
-abbrev pub WasLaidWith : List Laid → scanner_t → scanner_t → Bool → Bool → group_t → Option code_token_t → Type 0
+abbrev pub WasLaidWith : List Laid → Scanner → Scanner → Bool → Bool → group_t → Option code_token_t → Type 0
 WasLaidWith H s t direct waits y None = (k : Kind) × IsLaidAlone H s t k waits y
 WasLaidWith H s t direct waits y (Some z) = IsLaidBoth H s t direct waits y z
 
-abbrev pub WasLaid : List Laid → scanner_t → scanner_t → Bool → laid_t → code_token_t → Type 0
+abbrev pub WasLaid : List Laid → Scanner → Scanner → Bool → laid_t → code_token_t → Type 0
 WasLaid H s t direct l token = WasLaidWith H s t direct l.waits (group_with l.ends l.opens l.key token) l.decider
 
 -- all tokens of a group and of what comes right after it

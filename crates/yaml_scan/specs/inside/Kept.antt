@@ -11,15 +11,7 @@ abbrev pub kept_of : Inside → KeptText → yaml_kept_parser_t
 kept_of p text = record {
   setting = p.setting;
   text = Some text;
-  refusal = p.scanner.refusal;
-  near = p.scanner.near;
-  limit = p.scanner.limit;
-  slots = p.scanner.slots;
-  allowed = p.scanner.allowed;
-  layout = p.scanner.layout;
-  reach = p.scanner.reach;
-  taken = p.scanner.taken;
-  made = p.scanner.made;
+  state = p.state;
   session = p.session;
   lead = p.lead;
 }
@@ -31,4 +23,4 @@ pub record IsKept (p : Parser) (k : yaml_kept_parser_t) : Type 0 where
   pub seen_as : parser_of parser ≡ p
   pub left : KeptText
   pub kept : k ≡ kept_of parser left
-  pub text : parser.session.over ≡ false → 0 < parser.scanner.made → IsKeptOf parser.scanner.text p.input left
+  pub text : parser.session.over ≡ false → 0 < parser.state.made → IsKeptOf parser.text p.input left

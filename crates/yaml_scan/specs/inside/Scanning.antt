@@ -24,7 +24,7 @@ use Rattle.yaml_scan.specs.Course.{ended, oldest, Input, Course, course, next}
 use Rattle.yaml_scan.specs.declared.fault.stop_t.{stop_t}
 use Rattle.yaml_scan.specs.declared.groups.group_t.{group_t}
 use Rattle.yaml_scan.specs.declared.met.step_t.{step_t}
-use Rattle.yaml_scan.specs.declared.scanner.scanner_t.{scanner_t}
+use Rattle.yaml_scan.specs.inside.Scanner.{Scanner}
 use Rattle.yaml_scan.specs.declared.slots.slots_t.{slots_t}
 use Rattle.yaml_scan.specs.Kind.{Kind, is_candidate_kind, is_flow_start}
 use Rattle.yaml_scan.specs.Source.{Source, Offence}
@@ -38,7 +38,7 @@ use Rattle.yaml_scan.specs.Levels.{laid, open_columns, greatest_level, stays}
 use Rattle.yaml_scan.specs.Falling.{AllLess}
 use Rattle.yaml_scan.specs.Order.{IsHistory}
 use Rattle.yaml_scan.specs.Groups.{offline}
-use Rattle.yaml_scan.specs.Settled.{before, pace}
+use Rattle.yaml_scan.specs.Settled.{before, first_steps, pace}
 use Rattle.yaml_scan.specs.inside.Slots.{Held, held, outer_to, empty_slots, lowest, step_of}
 use Rattle.yaml_scan.specs.inside.Slots.{completed_held, is_live, is_level, lost_held, needed}
 use Rattle.yaml_scan.specs.inside.Slots.{root_of, slot_after}
@@ -48,10 +48,10 @@ use Rattle.yaml_scan.specs.Step.Outcome.{Reads, Faults}
 use Rattle.yaml_scan.specs.Near.{is_near}
 
 -- what it scans
-abbrev pub text_of : scanner_t → Source
+abbrev pub text_of : Scanner → Source
 text_of s = source_of s.text.chars
 
-abbrev pub input_of : scanner_t → Input
+abbrev pub input_of : Scanner → Input
 input_of s = record { encoding = s.text.encoding; source = source_of s.text.chars; refusal = refusal_seen s.refusal }
 
 -- from which index on steps are near
@@ -66,7 +66,7 @@ IsNearOf None cs near = length (utf8 cs) < near
 IsNearOf (Some f) cs near = IsNearFrom cs near
 
 -- What a scanner holds if it has these groups in its queue. n is the number of the next step.
-pub record HoldsWith (H : List Laid) (n : ℕ) (s : scanner_t) (ys : List group_t) : Type 0 where
+pub record HoldsWith (H : List Laid) (n : ℕ) (s : Scanner) (ys : List group_t) : Type 0 where
   pub text : AreChars s.text.chars
   pub is_history : IsHistory s.limit H
   pub number : n ≡ length H + 2
@@ -85,11 +85,11 @@ pub record HoldsWith (H : List Laid) (n : ℕ) (s : scanner_t) (ys : List group_
   pub taken : s.taken ≤ length (before s.limit H)
   pub place : ended H ≡ false → IsMarkOf s.text.chars s.reach (place_after H)
 
-abbrev pub groups_in : scanner_t → List group_t
+abbrev pub groups_in : Scanner → List group_t
 groups_in s = s.layout.queue.groups.items
 
 -- n is the number of the next step
-abbrev pub Holds : List Laid → ℕ → scanner_t → Type 0
+abbrev pub Holds : List Laid → ℕ → Scanner → Type 0
 Holds H n s = HoldsWith H n s (groups_in s)
 
 -- a kind of lexeme after the gap, where the gap ends, and whether a key is allowed there
@@ -99,18 +99,18 @@ pub record Met : Type 0 where
   pub allowed : Bool
 
 -- what a step has met
-abbrev pub met_in : scanner_t → step_t → Met
+abbrev pub met_in : Scanner → step_t → Met
 met_in s r = record { kind = r.kind; front = s.front; allowed = r.allowed }
 
 -- the kind of lexeme that was found after the gap
-pub record IsMet (H : List Laid) (s : scanner_t) (m : Met) : Type 0 where
+pub record IsMet (H : List Laid) (s : Scanner) (m : Met) : Type 0 where
   pub front : IsMarkOf s.text.chars m.front (front_of (text_of s) H)
   pub allowed : m.allowed ≡ allowed H m.front
   pub kind : (text_of s).kind (nat_lt 0 (depth H)) (front_of (text_of s) H) ≡ Some m.kind
   pub step : step (text_of s) s.limit H ≡ read_step (text_of s) s.limit H m.kind (front_of (text_of s) H)
 
 -- a lexeme that was met can be read and laid, after the groups ys
-pub record CanLay (H : List Laid) (s : scanner_t) (ys : List group_t) (m : Met) : Type 0 where
+pub record CanLay (H : List Laid) (s : Scanner) (ys : List group_t) (m : Met) : Type 0 where
   pub holds : HoldsWith H (s.made + 1) s ys
   pub running : ended H ≡ false
   pub small : length s.text.chars < 2 ^ 63
@@ -119,13 +119,13 @@ pub record CanLay (H : List Laid) (s : scanner_t) (ys : List group_t) (m : Met) 
 
 -- there is room for what the step of a lexeme of kind k may keep, in flow or not: for one more group, for one more
 -- depth if it enters one, and for one more level outside flow
-pub record HasRoom (s : scanner_t) (in_flow : Bool) (k : Kind) : Type 0 where
+pub record HasRoom (s : Scanner) (in_flow : Bool) (k : Kind) : Type 0 where
   pub depths : is_flow_start k ≡ true → vec_len s.slots.outer < vec_capacity s.slots.outer
   pub levels : in_flow ≡ false → vec_len s.layout.levels < vec_capacity s.layout.levels
   pub groups : length s.layout.queue.groups.items < deque_capacity s.layout.queue.groups
 
 -- a step can be made, or two
-pub record CanStep (H : List Laid) (s : scanner_t) : Type 0 where
+pub record CanStep (H : List Laid) (s : Scanner) : Type 0 where
   pub holds : Holds H (s.made + 1) s
   pub running : ended H ≡ false
   pub small : length s.text.chars < 2 ^ 63
@@ -133,32 +133,32 @@ pub record CanStep (H : List Laid) (s : scanner_t) : Type 0 where
   pub near : IsNearOf (refusal_seen s.refusal) s.text.chars s.near
 
 -- the gap was passed, in flow or not, and no candidate is lost there
-pub record Passes (H : List Laid) (s : scanner_t) (in_flow : Bool) : Type 0 where
+pub record Passes (H : List Laid) (s : Scanner) (in_flow : Bool) : Type 0 where
   pub can : CanStep H s
   pub flow : in_flow ≡ nat_lt 0 (vec_len s.slots.outer)
   pub front : IsMarkOf s.text.chars s.front (front_of (text_of s) H)
   pub none_lost : lost_held s.limit s.front (root_of s.slots.outer.items s.slots.top) ≡ None
 
 -- a lexeme of kind k comes after the gap
-pub record Comes (H : List Laid) (s : scanner_t) (in_flow : Bool) (k : Kind) : Type 0 where
+pub record Comes (H : List Laid) (s : Scanner) (in_flow : Bool) (k : Kind) : Type 0 where
   pub passes : Passes H s in_flow
   pub is_kind : (text_of s).kind in_flow (front_of (text_of s) H) ≡ Some k
 
 -- whether a key is allowed there
-abbrev pub allowed_in : scanner_t → Bool → Bool
+abbrev pub allowed_in : Scanner → Bool → Bool
 allowed_in s in_flow = s.allowed || (not in_flow && nat_lt s.reach.line s.front.line)
 
 -- what is wrong with a kind after the gap, if it needs an allowed key and none is allowed
-abbrev pub refused_in : scanner_t → Bool → Kind → Bool → Option (List ℕ)
+abbrev pub refused_in : Scanner → Bool → Kind → Bool → Option (List ℕ)
 refused_in s in_flow k allowed = if not in_flow && not allowed
     then problem_of k (not (is_some (completed_held k s.limit s.front s.slots.top))) else None
 
 -- the required candidate that a lexeme of a kind after the gap would clear or replace
-abbrev pub cleared_in : scanner_t → Bool → Kind → Bool → Option Held
+abbrev pub cleared_in : Scanner → Bool → Kind → Bool → Option Held
 cleared_in s in_flow k allowed = if replaces k allowed && not in_flow then needed s.limit s.front s.slots.top else None
 
 -- `new` is what is kept of the lexeme that was met, in flow or not, with the greatest level that it keeps
-pub record IsNewHeld (s : scanner_t) (m : Met) (in_flow : Bool) (l : Option ℕ) (new : Held) : Type 0 where
+pub record IsNewHeld (s : Scanner) (m : Met) (in_flow : Bool) (l : Option ℕ) (new : Held) : Type 0 where
   pub flow : in_flow ≡ nat_lt 0 (vec_len s.slots.outer)
   pub is_greatest : l ≡ greatest_level (filter (stays in_flow m.kind new.start) (reverse s.layout.levels.items))
   pub step : new.step ≡ s.made + 1
@@ -172,7 +172,7 @@ lost_after limit slots m new mark =
 
 -- a lexeme that was read can be laid, after the groups ys
 pub record CanPut
-    (H : List Laid) (s : scanner_t) (ys : List group_t) (m : Met) (in_flow : Bool) (new : Held) (x : yaml_lexeme_t)
+    (H : List Laid) (s : Scanner) (ys : List group_t) (m : Met) (in_flow : Bool) (new : Held) (x : yaml_lexeme_t)
     : Type 0 where
   pub can : CanLay H s ys m
   pub level : Option ℕ
@@ -181,7 +181,7 @@ pub record CanPut
   pub kept : lost_after s.limit s.slots m new x.reach ≡ None
 
 -- a lexeme that was met can be read, and there is room for it
-pub record CanRead (H : List Laid) (s : scanner_t) (r : step_t) : Type 0 where
+pub record CanRead (H : List Laid) (s : Scanner) (r : step_t) : Type 0 where
   pub can : CanStep H s
   pub met : IsMet H s (met_in s r)
   pub is_new : IsNewHeld s (met_in s r) r.in_flow r.context.level r.new
@@ -191,7 +191,7 @@ pub record CanRead (H : List Laid) (s : scanner_t) (r : step_t) : Type 0 where
   pub room : HasRoom s r.in_flow r.kind
 
 -- the same but for how much room there is
-pub record Beside (s t : scanner_t) : Type 0 where
+pub record Beside (s t : Scanner) : Type 0 where
   pub text : t.text ≡ s.text
   pub refusal : t.refusal ≡ s.refusal
   pub near : t.near ≡ s.near
@@ -213,21 +213,21 @@ pub record Beside (s t : scanner_t) : Type 0 where
   pub made : t.made ≡ s.made
 
 -- A lexeme of kind k was read after the gap, or why it was refused, for an offence at `there`.
-abbrev pub IsReadIn : scanner_t → Kind → yaml_context_t → yaml_mark_t → Result code_lexeme_t yaml_refusal_t → Type 0
+abbrev pub IsReadIn : Scanner → Kind → yaml_context_t → yaml_mark_t → Result code_lexeme_t yaml_refusal_t → Type 0
 IsReadIn s k x there (Ok l) = (p : ℕ) → IsMarkOf s.text.chars s.front p
     → IsRead s.text.chars k x.depth x.level p (lexeme_of l)
 IsReadIn s k x there (Err r) = (p : ℕ) → IsMarkOf s.text.chars s.front p
     → (r ≡ MEMORY) ⊎ IsOffence s.text.chars k x.depth x.level p (refused_at k s.front there r)
 
 -- A step has to stop after the lexeme x, which was read to `there`.
-pub record StopsAfter (H : List Laid) (s : scanner_t) (r : step_t) (x : yaml_lexeme_t) : Type 0 where
+pub record StopsAfter (H : List Laid) (s : Scanner) (r : step_t) (x : yaml_lexeme_t) : Type 0 where
   pub can : CanRead H s r
   pub read : IsRead s.text.chars r.kind (vec_len s.slots.outer) r.context.level (front_of (text_of s) H) x
   pub there : s.there ≡ x.reach
   pub stops : (s.near ≤ x.reach.index) ⊎ (is_some (lost_after s.limit s.slots (met_in s r) r.new x.reach) ≡ true)
 
 -- the same scanner, with the place of an offence of another
-abbrev pub at_there : scanner_t → scanner_t → scanner_t
+abbrev pub at_there : Scanner → Scanner → Scanner
 at_there s t = record {
   alloc = s.alloc;
   text = s.text;
@@ -240,19 +240,18 @@ at_there s t = record {
   reach = s.reach;
   front = s.front;
   there = t.there;
-  kept = s.kept;
   taken = s.taken;
   made = s.made;
 }
 
 -- what a reader does: it reads, and changes only the place of an offence
-pub record HasRead (s t : scanner_t) (k : Kind) (x : yaml_context_t) (o : Result code_lexeme_t yaml_refusal_t)
+pub record HasRead (s t : Scanner) (k : Kind) (x : yaml_context_t) (o : Result code_lexeme_t yaml_refusal_t)
     : Type 0 where
   pub read : IsReadIn s k x t.there o
   pub same : t ≡ at_there s t
 
 -- what a step does not change
-pub record Same (s t : scanner_t) : Type 0 where
+pub record Same (s t : Scanner) : Type 0 where
   pub text : t.text ≡ s.text
   pub refusal : t.refusal ≡ s.refusal
   pub near : t.near ≡ s.near
@@ -261,7 +260,7 @@ pub record Same (s t : scanner_t) : Type 0 where
   pub done : t.layout.queue.done ≡ s.layout.queue.done
 
 -- the next lexeme was laid, if the groups zs are queued then
-pub record AdvancesWith (H : List Laid) (s t : scanner_t) (zs : List group_t) : Type 0 where
+pub record AdvancesWith (H : List Laid) (s t : Scanner) (zs : List group_t) : Type 0 where
   pub lexeme : Lexeme
   pub step : step (text_of s) s.limit H ≡ Reads lexeme
   pub holds : HoldsWith (laid s.limit H lexeme ∷ H) (s.made + 1 + 1) t zs
@@ -272,7 +271,7 @@ pub record AdvancesWith (H : List Laid) (s t : scanner_t) (zs : List group_t) : 
 
 -- The token of a lexeme that was met needs what comes after it, if it is read to `at`: it is a candidate, and no other
 -- token is queued. If sparing, it closes no level, so its token is the next one. There is room for two groups.
-pub record IsUndecided (s : scanner_t) (sparing : Bool) (r : step_t) (at : yaml_mark_t) : Type 0 where
+pub record IsUndecided (s : Scanner) (sparing : Bool) (r : step_t) (at : yaml_mark_t) : Type 0 where
   pub candidate : is_candidate_kind r.kind ≡ true
   pub stays : is_flow_start r.kind ≡ false
   pub allowed : r.allowed ≡ true
@@ -283,14 +282,14 @@ pub record IsUndecided (s : scanner_t) (sparing : Bool) (r : step_t) (at : yaml_
 
 -- the lexeme x, of kind k, which comes right there, decides whether it is a key
 pub record IsDecided
-    (s : scanner_t) (sparing : Bool) (r : step_t) (at : yaml_mark_t) (k : Kind) (x : yaml_lexeme_t)
+    (s : Scanner) (sparing : Bool) (r : step_t) (at : yaml_mark_t) (k : Kind) (x : yaml_lexeme_t)
     : Type 0 where
   pub undecided : IsUndecided s sparing r at
   pub decider : (p : ℕ) → IsMarkOf s.text.chars at p → IsDecider s.text.chars r.in_flow p k x
   pub far : x.reach.index < s.near
 
 -- a lexeme in flow that was met and read to `at` has to wait until an earlier candidate is decided, and one more may
-pub record Waits (s : scanner_t) (r : step_t) (at : yaml_mark_t) : Type 0 where
+pub record Waits (s : Scanner) (r : step_t) (at : yaml_mark_t) : Type 0 where
   pub flow : r.in_flow ≡ true
   pub candidate : is_candidate_kind r.kind ≡ true
   pub stays : is_flow_start r.kind ≡ false
@@ -301,7 +300,7 @@ pub record Waits (s : scanner_t) (r : step_t) (at : yaml_mark_t) : Type 0 where
   pub none : r.allowed ≡ false → s.slots.top ≡ None
 
 -- a lexeme read to `at` and x, of kind k, right after it wait until an outer candidate, live after x, is decided
-pub record IsWaiting (s : scanner_t) (r : step_t) (at : yaml_mark_t) (k : Kind) (x : yaml_lexeme_t) : Type 0 where
+pub record IsWaiting (s : Scanner) (r : step_t) (at : yaml_mark_t) (k : Kind) (x : yaml_lexeme_t) : Type 0 where
   pub waits : Waits s r at
   pub reach : x.reach ≡ one_on at
   pub outer : (h : Held) × ((slice_get s.slots.outer.items s.slots.not_simple_keys ≡ Some (Some h))
@@ -310,17 +309,17 @@ pub record IsWaiting (s : scanner_t) (r : step_t) (at : yaml_mark_t) (k : Kind) 
   pub far : x.reach.index < s.near
 
 -- the next token needs what comes right after the lexeme of a step, since that has to wait, or since it is a candidate
-abbrev pub IsFollowed : scanner_t → Bool → step_t → yaml_mark_t → Bool → Type 0
+abbrev pub IsFollowed : Scanner → Bool → step_t → yaml_mark_t → Bool → Type 0
 IsFollowed s sparing r at true = Waits s r at
 IsFollowed s sparing r at false = IsUndecided s sparing r at
 
 -- the lexeme x, of kind k, comes right after that of a step, which was read to `at`, and both can be laid together
-abbrev pub IsFollower : scanner_t → Bool → step_t → yaml_mark_t → Bool → Kind → yaml_lexeme_t → Type 0
+abbrev pub IsFollower : Scanner → Bool → step_t → yaml_mark_t → Bool → Kind → yaml_lexeme_t → Type 0
 IsFollower s sparing r at true k x = IsWaiting s r at k x
 IsFollower s sparing r at false k x = IsDecided s sparing r at k x
 
 -- a lexeme that was read can be laid, alone or with what comes right after it
-pub record CanLayAll (H : List Laid) (s : scanner_t) (r : step_t) (x : yaml_lexeme_t) : Type 0 where
+pub record CanLayAll (H : List Laid) (s : Scanner) (r : step_t) (x : yaml_lexeme_t) : Type 0 where
   pub can : CanRead H s r
   pub read : (p : ℕ) → IsMarkOf s.text.chars s.front p
       → IsRead s.text.chars r.kind r.context.depth r.context.level p x
@@ -328,7 +327,7 @@ pub record CanLayAll (H : List Laid) (s : scanner_t) (r : step_t) (x : yaml_lexe
   pub far : x.reach.index < s.near
 
 -- a scanner that has made a step more
-abbrev pub counted : scanner_t → scanner_t
+abbrev pub counted : Scanner → Scanner
 counted s = record {
   alloc = s.alloc;
   text = s.text;
@@ -341,14 +340,13 @@ counted s = record {
   reach = s.reach;
   front = s.front;
   there = s.there;
-  kept = s.kept;
   taken = s.taken;
   made = s.made + 1;
 }
 
 -- the next two lexemes were laid, if the groups zs are queued then
-pub record AdvancesTwice (H : List Laid) (s t : scanner_t) (zs : List group_t) : Type 0 where
-  pub between : scanner_t
+pub record AdvancesTwice (H : List Laid) (s t : Scanner) (zs : List group_t) : Type 0 where
+  pub between : Scanner
   pub then_queued : List group_t
   pub first : AdvancesWith H s between then_queued
   pub running : ended (laid s.limit H first.lexeme ∷ H) ≡ false
@@ -356,60 +354,68 @@ pub record AdvancesTwice (H : List Laid) (s t : scanner_t) (zs : List group_t) :
   pub second : AdvancesWith (laid s.limit H first.lexeme ∷ H) (counted between) t zs
 
 -- the next token needs both of the next two lexemes, if sparing
-abbrev pub Needs : Bool → (H : List Laid) → (s t : scanner_t) → (zs : List group_t) → AdvancesTwice H s t zs → Type 0
+abbrev pub Needs : Bool → (H : List Laid) → (s t : Scanner) → (zs : List group_t) → AdvancesTwice H s t zs → Type 0
 Needs sparing H s t zs a = sparing ≡ true → length (before s.limit (laid s.limit H a.first.lexeme ∷ H)) ≤ s.taken
 
 -- two steps were laid, neither of which is near the reader's fault
-abbrev pub LaysTwo : Bool → List Laid → scanner_t → scanner_t → List group_t → Type 0
+abbrev pub LaysTwo : Bool → List Laid → Scanner → Scanner → List group_t → Type 0
 LaysTwo sparing H s t zs = ((a : AdvancesTwice H s (counted t) zs) × Needs sparing H s (counted t) zs a)
     × (t.reach.index < s.near)
 
 -- a step was laid, or two, which are not counted yet: how many is told
-abbrev pub IsLaidBy : Bool → List Laid → scanner_t → scanner_t → List group_t → ℕ → Type 0
+abbrev pub IsLaidBy : Bool → List Laid → Scanner → Scanner → List group_t → ℕ → Type 0
 IsLaidBy sparing H s t zs n = ((n ≡ 1) × AdvancesWith H s t zs × (t.reach.index < s.near))
     ⊎ ((n ≡ 2) × LaysTwo sparing H s t zs)
 
 -- The next lexeme was laid, not near the reader's fault, or the next two, if the groups zs are queued then. If sparing,
 -- the next token needs both.
-abbrev pub Makes : Bool → List Laid → scanner_t → scanner_t → List group_t → Type 0
-Makes sparing H s u zs = ((t : scanner_t) × AdvancesWith H s t zs × (t.reach.index < s.near) × (u ≡ counted t))
-    ⊎ ((t : scanner_t) × LaysTwo sparing H s t zs × (u ≡ counted (counted t)))
+abbrev pub Makes : Bool → List Laid → Scanner → Scanner → List group_t → Type 0
+Makes sparing H s u zs = ((t : Scanner) × AdvancesWith H s t zs × (t.reach.index < s.near) × (u ≡ counted t))
+    ⊎ ((t : Scanner) × LaysTwo sparing H s t zs × (u ≡ counted (counted t)))
 
 -- the offence of a step
-pub record Offends (H : List Laid) (s : scanner_t) (f : Fault) : Type 0 where
+pub record Offends (H : List Laid) (s : Scanner) (f : Fault) : Type 0 where
   pub offence : Offence
   pub step : step (text_of s) s.limit H ≡ Faults offence
   pub fault : offence.fault ≡ f
   pub problem : IsProblem (text_of s) offence
 
 -- f is the fault of the step: that of the scanner, or the reader's that is near it
-abbrev pub Ends : List Laid → scanner_t → Fault → Type 0
+abbrev pub Ends : List Laid → Scanner → Fault → Type 0
 Ends H s f = (o : Offence) × (next (input_of s) s.limit H ≡ Faults o) × (o.fault ≡ f)
 
--- a scanner that has stopped
-pub record Stays (s t : scanner_t) : Type 0 where
+-- a scanner that has made no step
+pub record Stays (s t : Scanner) : Type 0 where
   pub same : Same s t
   pub made : t.made ≡ s.made
   pub reach : t.reach ≡ s.reach
 
+-- a scanner that has stopped
+pub record Halts (s t : Scanner) : Type 0 where
+  pub limit : t.limit ≡ s.limit
+  pub taken : t.taken ≡ s.taken
+  pub done : t.layout.queue.done ≡ s.layout.queue.done
+  pub made : t.made ≡ s.made
+  pub reach : t.reach ≡ s.reach
+
 -- what is left of a step that stopped, since memory was refused or there is a fault
-abbrev pub Refuses : List Laid → scanner_t → scanner_t → stop_t → Type 0
-Refuses H s t stop = ((fault_at stop t.kept ≡ memory_fault) ⊎ Ends H s (fault_at stop t.kept)) × Stays s t
+abbrev pub Refuses : List Laid → Scanner → Scanner → stop_t → Type 0
+Refuses H s t stop = ((fault_at stop t.refusal ≡ memory_fault) ⊎ Ends H s (fault_at stop t.refusal)) × Halts s t
 
 -- a step was made, or two, or it stopped
-abbrev pub IsStep : List Laid → scanner_t → scanner_t → Result (Unit {0}) stop_t → Type 0
+abbrev pub IsStep : List Laid → Scanner → Scanner → Result (Unit {0}) stop_t → Type 0
 IsStep H s t o = MatchResult o (λ _. Makes true H s t (groups_in t)) (λ stop. Refuses H s t stop)
 
 -- the course of an input
-unfoldable pub course_of : scanner_t → Course
+unfoldable pub course_of : Scanner → Course
 course_of s = course s.limit (input_of s)
 
 -- the lexemes that a scanner has read
-unfoldable pub history : scanner_t → List Laid
+unfoldable pub history : Scanner → List Laid
 history s = oldest (s.made - 1) (course_of s).read
 
 -- STREAM-START was made, and the session is not over
-pub record IsRunning (s : scanner_t) : Type 0 where
+pub record IsRunning (s : Scanner) : Type 0 where
   pub small : length s.text.chars < 2 ^ 63
   pub near : IsNearOf (refusal_seen s.refusal) s.text.chars s.near
   pub holds : Holds (history s) (s.made + 1) s
@@ -418,49 +424,51 @@ pub record IsRunning (s : scanner_t) : Type 0 where
   pub within : s.made ≤ length (course_of s).read + 1
 
 -- one step more
-pub record Steps (s t : scanner_t) : Type 0 where
+pub record Steps (s t : Scanner) : Type 0 where
   pub runs : IsRunning t
   pub made : t.made ≡ s.made + 1
   pub same : Same s t
 
 -- two steps more, and the next token needs both
-pub record StepsTwice (s t : scanner_t) : Type 0 where
+pub record StepsTwice (s t : Scanner) : Type 0 where
   pub runs : IsRunning t
   pub made : t.made ≡ s.made + 1 + 1
   pub same : Same s t
   pub needed : length (before s.limit (oldest s.made (course_of s).read)) ≤ s.taken
 
 -- one step more, or two if the next token needs both
-abbrev pub StepsOn : scanner_t → scanner_t → Type 0
+abbrev pub StepsOn : Scanner → Scanner → Type 0
 StepsOn s t = Steps s t ⊎ StepsTwice s t
 
 -- the step after the last one is faulty
-pub record IsLast (s : scanner_t) (f : Fault) : Type 0 where
+pub record IsLast (s : Scanner) (f : Fault) : Type 0 where
   pub made : s.made ≡ length (course_of s).read + 1
   pub fault : (course_of s).fault ≡ Some f
 
 -- STREAM-END was not taken
-abbrev pub IsOpen : scanner_t → Type 0
+abbrev pub IsOpen : Scanner → Type 0
 IsOpen s = ended (course_of s).read ≡ true → s.taken < length (offline (course_of s).read)
 
 -- the steps that a look at the next token makes
-pub record Settles (s t : scanner_t) : Type 0 where
+pub record Settles (s t : Scanner) : Type 0 where
   pub runs : IsRunning t
   pub settled : t.taken < length (before t.limit (history t))
   pub made : t.made ≡ pace s.limit (course_of s).read s.taken s.made
   pub same : Same s t
 
 -- there is no next token, and f is why
-pub record Fails (s t : scanner_t) (f : Fault) : Type 0 where
+pub record Fails (s t : Scanner) (f : Fault) : Type 0 where
   pub made : t.made ≡ length (course_of s).read + 1
   pub none : length (before s.limit (course_of s).read) ≤ s.taken
   pub fault : (course_of s).fault ≡ Some f
 
 -- what is left of a scanner that has stopped: how far the last step was read can still be seen
-pub record Stops (s t : scanner_t) : Type 0 where
-  pub same : Same s t
+pub record Stops (s t : Scanner) : Type 0 where
+  pub limit : t.limit ≡ s.limit
+  pub taken : t.taken ≡ s.taken
+  pub done : t.layout.queue.done ≡ s.layout.queue.done
   pub least : s.made ≤ t.made
   pub most : t.made ≤ pace s.limit (course_of s).read s.taken s.made
   -- the head of the queue was not the next token, so a step was needed
-  pub unsettled : length (before t.limit (history t)) ≤ t.taken
-  pub reach : t.reach ≡ reach (history t)
+  pub unsettled : length (before s.limit (first_steps t.made (course_of s).read)) ≤ s.taken
+  pub reach : t.reach ≡ reach (first_steps t.made (course_of s).read)

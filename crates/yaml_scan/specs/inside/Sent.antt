@@ -8,7 +8,7 @@ use Rattle.yaml_text.specs.declared.token.yaml_token_t.{yaml_token_t as code_tok
 use Rattle.yaml_text.specs.declared.types.yaml_encoding_t.{yaml_encoding_t}
 use Rattle.yaml_scan.specs.declared.fault.stop_t.{stop_t}
 use Rattle.yaml_scan.specs.declared.groups.group_t.{group_t}
-use Rattle.yaml_scan.specs.declared.scanner.scanner_t.{scanner_t}
+use Rattle.yaml_scan.specs.inside.Scanner.{Scanner}
 use Rattle.yaml_scan.specs.Groups.{handed_out}
 use Rattle.yaml_scan.specs.Settled.{pace}
 use Rattle.yaml_scan.specs.Token.{yaml_token_t}
@@ -19,7 +19,7 @@ use Rattle.yaml_scan.specs.inside.Scanning.{Fails, IsOpen, IsRunning, Settles, S
 use Rattle.yaml_scan.specs.inside.Stop.{fault_at}
 
 -- These tokens, some, were given, the stream end not among them. As many steps were made as the last of them needs.
-pub record Sends (s t : scanner_t) (tokens : List yaml_token_t) : Type 0 where
+pub record Sends (s t : Scanner) (tokens : List yaml_token_t) : Type 0 where
   pub runs : IsRunning t
   pub still_open : IsOpen t
   pub text : t.text ≡ s.text
@@ -35,15 +35,15 @@ pub record Sends (s t : scanner_t) (tokens : List yaml_token_t) : Type 0 where
 -- The head of the queue is the next token, and a sink was given nothing; or it was given some tokens; or no more steps
 -- are made, or it refused a token.
 abbrev pub SendsOrSettles
-    : scanner_t → scanner_t → (List yaml_token_t → Type 0) → Type 0 → Result Bool stop_t → Type 0
+    : Scanner → Scanner → (List yaml_token_t → Type 0) → Type 0 → Result Bool stop_t → Type 0
 SendsOrSettles s t took refuses (Ok true) = Settles s t × took []
 SendsOrSettles s t took refuses (Ok false) = (tokens : List yaml_token_t) × Sends s t tokens × took tokens
-SendsOrSettles s t took refuses (Err stop) = (((fault_at stop t.kept ≡ memory_fault)
-    ⊎ Fails s t (fault_at stop t.kept)) × Stops s t × took []) ⊎ refuses
+SendsOrSettles s t took refuses (Err stop) = (((fault_at stop t.refusal ≡ memory_fault)
+    ⊎ Fails s t (fault_at stop t.refusal)) × Stops s t × took []) ⊎ refuses
 
 -- The group y is at the head of the queue, and none of its tokens waits: no block ends come before it that are not its
 -- own, it is not that of the candidate which is awaited, and its token is not the stream end.
-pub record IsReadyGroup (s : scanner_t) (y : group_t) : Type 0 where
+pub record IsReadyGroup (s : Scanner) (y : group_t) : Type 0 where
   pub others : List group_t
   pub head : groups_in s ≡ y ∷ others
   pub early : s.layout.queue.early ≡ 0
@@ -51,19 +51,19 @@ pub record IsReadyGroup (s : scanner_t) (y : group_t) : Type 0 where
   pub no_end : is_end (token_of y.token) ≡ false
 
 -- These tokens of the queue were given without a step, the stream end not among them.
-pub record Drains (s t : scanner_t) (tokens : List yaml_token_t) : Type 0 where
+pub record Drains (s t : Scanner) (tokens : List yaml_token_t) : Type 0 where
   pub given : HasGiven s t tokens
   pub taken : t.taken ≡ s.taken + length tokens
   pub made : t.made ≡ s.made
   pub no_end : list_any is_end tokens ≡ false
 
 -- a sink was given some tokens of the queue, or none, and then nothing changed
-abbrev pub DrainsOrStays : scanner_t → scanner_t → (List yaml_token_t → Type 0) → Bool → Type 0
+abbrev pub DrainsOrStays : Scanner → Scanner → (List yaml_token_t → Type 0) → Bool → Type 0
 DrainsOrStays s t took true = (tokens : List yaml_token_t) × Drains s t tokens × (0 < length tokens) × took tokens
 DrainsOrStays s t took false = (t ≡ s) × took []
 
 -- The same in an input, before whose first step or after it s is.
-pub record HasSent (setting : yaml_encoding_t) (input : List ℕ) (s t : scanner_t) (tokens : List yaml_token_t) : Type 0
+pub record HasSent (setting : yaml_encoding_t) (input : List ℕ) (s t : Scanner) (tokens : List yaml_token_t) : Type 0
   where
     pub stands : IsIn setting input t
     pub still_open : IsOpen t
@@ -76,13 +76,13 @@ pub record HasSent (setting : yaml_encoding_t) (input : List ℕ) (s t : scanner
     pub no_end : list_any is_end tokens ≡ false
 
 abbrev pub HasSentOrSettled
-    : yaml_encoding_t → List ℕ → scanner_t → scanner_t → (List yaml_token_t → Type 0) → Type 0 → Result Bool stop_t
+    : yaml_encoding_t → List ℕ → Scanner → Scanner → (List yaml_token_t → Type 0) → Type 0 → Result Bool stop_t
     → Type 0
 HasSentOrSettled setting input s t took refuses (Ok true) = IsSettled setting input s t × took []
 HasSentOrSettled setting input s t took refuses (Ok false) = (tokens : List yaml_token_t)
     × HasSent setting input s t tokens × took tokens
-HasSentOrSettled setting input s t took refuses (Err stop) = ((IsShort setting input s (fault_at stop t.kept)
-    ⊎ IsEnded setting input s t (fault_at stop t.kept)) × IsStopped setting input s t × took []) ⊎ refuses
+HasSentOrSettled setting input s t took refuses (Err stop) = ((IsShort setting input s (fault_at stop t.refusal)
+    ⊎ IsEnded setting input s t (fault_at stop t.refusal)) × IsStopped setting input s t × took []) ⊎ refuses
 
 -- A token that is not the stream end was given to a sink, which took it; or the token is returned, and the sink took
 -- none.

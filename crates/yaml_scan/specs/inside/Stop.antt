@@ -1,4 +1,5 @@
 -- The fault of a step that stopped.
+use Rattle.std.specs.Prelude.{Option, None, Some}
 use Rattle.yaml_text.specs.declared.fault.yaml_fault_t.{yaml_fault_t}
 use Rattle.yaml_text.specs.declared.types.yaml_error_type_t.TheVariants.{YAML_NO_ERROR}
 use Rattle.yaml_text.specs.Fault.{Fault, fault_of, memory_fault}
@@ -10,7 +11,8 @@ abbrev pub no_fault : Fault
 no_fault = record memory_fault { error = YAML_NO_ERROR }
 
 -- the fault of kind memory if memory was refused, and else the one that was kept, if the sink did not refuse a token
-abbrev pub fault_at : stop_t → yaml_fault_t → Fault
+abbrev pub fault_at : stop_t → Option yaml_fault_t → Fault
 fault_at MEMORY kept = memory_fault
-fault_at FAULT kept = fault_of kept
+fault_at FAULT (Some f) = fault_of f
+fault_at FAULT None = no_fault
 fault_at SINK kept = no_fault

@@ -17,17 +17,12 @@ use denote.Struct.Struct.{within}
 use denote.Struct.Owning.{shape}
 use denote.Triple.Walked.{Stays, walk_of}
 use Rattle.std.proofs.raw_atomic.Walks.{proved_at, leaves}
-use Rattle.std.proofs.Common.{None}
-use Rattle.yaml_c.specs.Handle.{held}
-use Rattle.yaml_c.specs.declared.held.ahead_t.TheVariants.{NONE}
+use Rattle.yaml_c.proofs.NothingHeld.{nothing_held}
 use Rattle.yaml_c.specs.contracts.handle.held_at_t as hand
 use Rattle.yaml_c.specs.contracts.handle.nowhere.{ended, clauses}
 use Rattle.yaml_c.specs.contracts.handle.nowhere.Key.{name as #self}
 use Rattle.yaml_c.proofs.handle.nowhere.Statement.{statement}
 use Rattle.yaml_c.proofs.handle.nowhere.Code as code
-
-nobody : held
-nobody = record { parser = None; ahead = NONE; encoding = 0; skipped = None }
 
 pub nowhere_spec : {M : Type 1} → statement M
 nowhere_spec {M} 𝓤 𝓛 𝓜 𝓡 wired =
@@ -38,7 +33,7 @@ nowhere_spec {M} 𝓤 𝓛 𝓜 𝓡 wired =
     let κs = z.0.0 in
     let Post : Val → SProp 𝓤 = (walk_of 𝓛 En hs c).post z in
     let w : Val = vstruct (vcons vnull vnil) in
-    let v : (hand.the_row).Denot = record { at = null_ptr; live = false; value = nobody } in
+    let v : (hand.the_row).Denot = record { at = null_ptr; live = false; value = nothing_held } in
     qed 𝓛 (raw (on_entry 𝓛 En.signature z.0.0 z.0.1 z.0.3 z.0.4) ∷ raw (emp 𝓤) ∷ []) ∵ drop ! $ drop ! $
     enter ! 𝓣.C 𝓣.Λ fn [] Post $ alloc_all ! (λ l. pass_all ! refl tt $
     sets ! (agg ! (and_then ! (lit ! tt) (no_more !))) refl (tt, (record { fits = lit< tt }, tt)) $

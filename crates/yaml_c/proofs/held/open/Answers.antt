@@ -11,9 +11,11 @@ pub returns-in-Ok : goal.returns-in-Ok
 returns-in-Ok c =
     let s = opened c.args.input.now c.args.setting c.args.limit in
     subst (λ (z : held_t). IsAt s z) (sym c.in-Ok.ensures.ok) (record {
-      kept = subst (λ (z : Parser). IsKept z c.new.result) c.with_key_limit-parser.ensures c.new.ensures;
-      ahead = refl;
-      stands = has_begun s.limit s.setting s.input s.parser refl refl refl refl;
-      encoding = c.encoding_number-encoding.ensures ∙ ap encoding_number c.in_ok-found_encoding.ensures;
+      keeps = record {
+        kept = subst (λ (z : Parser). IsKept z c.new.result) c.with_key_limit-parser.ensures c.new.ensures;
+        ahead = refl;
+        stands = has_begun s.limit s.setting s.input s.parser refl refl refl refl;
+      };
+      encoding = c.encoding_number-encoding.ensures ∙ ap encoding_number c.yaml_encoding_of.ensures;
       skipped = c.skipped_of.ensures;
     })

@@ -1,4 +1,4 @@
-use Rattle.std.proofs.Common.{◌≡◌, ◌∙◌, false, sym, ap, arith, rules}
+use Rattle.std.proofs.Common.{◌≡◌, ◌∙◌, true, false, sym, ap, arith, rules}
 use Rattle.yaml_lexeme.proofs.Places.PlaceMoves.{after_none}
 use Rattle.yaml_lexeme.proofs.Readers.PlainLinks.{link_none}
 use Rattle.yaml_lexeme.proofs.Readers.PlainLines.{over_below, passed_feed}
@@ -26,6 +26,6 @@ returns c =
     let q = c.skip_all_spaces.new.self in
     let feed : first p ≡ 10 = omega (arith, c.peek-c.ensures) in
     let at : q ≡ after_run (class_test SPACE) (skip 1 p) = c.skip_all_spaces.ensures ∙ ap (after_run (class_test SPACE)) (c.pass_feed.ensures ∙ ap (skip 1) c.again-next.ensures) in
-    let solid : is_white (first q) ≡ false = cc in
-    let t = over_below c.args.in_flow c.args.least p q c.if-in_flow.false feed at solid (omega (arith, ap (λ m. m.column) c.mark.ensures.value)) in
+    let yes : c.ends_before.result ≡ true = cc in
+    let t = over_below c.args.in_flow c.args.least p q feed at (c.ends_before.ensures yes) in
     record { over = t.0; end = t.1; broken = sym (passed_feed p feed); stays = search rules }

@@ -5,9 +5,18 @@ use Rattle.yaml_lexeme.specs.Classes.{is_white}
 use Rattle.yaml_lexeme.specs.Place.{first, after_run}
 use Rattle.yaml_lexeme.specs.Reading.{with_front}
 use Rattle.yaml_lexeme.specs.inside.Words.{links}
-use Rattle.yaml_lexeme.proofs.Readers.PlainLinks.{scalar_made}
-use Rattle.yaml_lexeme.proofs.Readers.PlainLines.{plain_words, plain_none, links_go_wrong}
+use Rattle.yaml_lexeme.proofs.Readers.PlainLinks.{scalar_made, scalar_ends}
+use Rattle.yaml_lexeme.proofs.Readers.PlainLines.{plain_words, plain_none, links_end, links_go_wrong}
 use Rattle.yaml_lexeme.proofs.plain.take_links.Goals as goal
+
+pub returns-in-Some : goal.returns-in-Some
+returns-in-Some c = λ p whole.
+    let flow = c.args.in_flow in
+    let least = c.args.least in
+    let q = c.args.cursor.now in
+    let out = c.args.scalar.now.value.items in
+    let all = plain_words flow least p q out (whole ∙ links_end flow least q out c.in-Some.ensures.over) in
+    scalar_ends flow least p q c.ends_soon.new.cursor out c.mark-scalar.result c.in-Some.passed_break all c.mark-scalar.ensures.value c.in-Some.ensures.broken c.in-Some.ensures.end
 
 pub returns-in_err-take_link : goal.returns-in_err-take_link
 returns-in_err-take_link c = λ p whole.
@@ -28,4 +37,4 @@ returns c = λ p whole.
     let all = plain_words flow least p q out (whole ∙ c.links.invariant ∙ took) in
     let b : c.is_break-scalar.result ≡ is_break (first (after_run is_blank q)) = cc in
     let r : c.skip_run-2.new.self ≡ after_run is_white (after_run is_blank q) = cc in
-    scalar_made flow least p q c.skip_run-2.new.self out c.mark-scalar.result c.is_break-scalar.result all c.mark-scalar.ensures.value b r
+    scalar_made flow least p q c.skip_run-2.new.self out c.mark-scalar-2.result c.is_break-scalar.result all c.mark-scalar-2.ensures.value b r

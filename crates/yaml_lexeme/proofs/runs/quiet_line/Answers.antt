@@ -1,63 +1,8 @@
-use Rattle.std.proofs.Common.{rules, length, ◌<◌, ◌≤◌, ◌^◌, ◌+◌, refl, sym, ap, ◌∙◌, arith, ℕ, List}
-use Rattle.std.proofs.lemmas.List.Sums.{prefix_len-le-length}
-use lib.Count.{count_trailing_zeros}
-use lib.Lanes.{chunk}
-use Rattle.std.specs.List.{count_by}
-use Rattle.yaml_lexeme.specs.inside.Runs.{is_stop, is_quiet, begins}
-use Rattle.yaml_text.proofs.ManyBytes.VectorRuns.{run_through, run_stops}
-use Rattle.yaml_lexeme.proofs.ManyBytes.VectorMasks.{stop_within}
-use Rattle.yaml_lexeme.proofs.ManyBytes.CharacterCounts.{count_stops, count_goes, count_small, count_part}
+use Rattle.yaml_lexeme.proofs.ManyBytes.ClearRuns.{quiet_is_clear}
 use Rattle.yaml_lexeme.proofs.runs.quiet_line.Goals as goal
-use Rattle.yaml_lexeme.proofs.runs.quiet_line.Goals.{Then-found-ne0}
 
-stop : (c : Then-found-ne0) → count_trailing_zeros 64 c.stops-found.result ≤ 16
-stop c =
-    let found = c.stops-found in
-    let w = stop_within (is_stop c.args.class) c.args.text.now c.wide.i 16 (omega arith) (omega arith) (omega (arith, found.ensures)) in
-    let e = ap (count_trailing_zeros 64) found.ensures in
-    omega (arith, w, e)
+pub past_leads-requires-clause-clear : goal.past_leads-requires-clause-clear
+past_leads-requires-clause-clear c = quiet_is_clear c.args.class c.args.text.now c.quiet_bytes-n.result.0 c.requires c.quiet_bytes-n.ensures.bytes
 
-pub starts_before-requires-clause-few : goal.starts_before-requires-clause-few
-starts_before-requires-clause-few c = omega (arith, stop (goal.at.starts_before-requires-clause-few c).Then-found-ne0)
-
-pub overflow_add-result-then-found-ne0 : goal.overflow_add-result-then-found-ne0
-overflow_add-result-then-found-ne0 c =
-    let small = count_small begins (count_trailing_zeros 64 c.stops-found.result) (chunk c.wide.i 16 c.args.text.now) in
-    let room : length c.args.text.now < 2 ^ 63 = search rules in
-    omega (arith, c.starts_before.ensures, small, stop (goal.at.overflow_add-result-then-found-ne0 c).Then-found-ne0, c.wide.invariant.fewer, room)
-
-pub returns-then-found-ne0 : goal.returns-then-found-ne0
-returns-then-found-ne0 c =
-    let found = c.stops-found in
-    let k = count_trailing_zeros 64 found.result in
-    let run = run_stops (is_stop c.args.class) (is_quiet c.args.class) (λ x. refl) c.args.text.now c.wide.i 16 (omega arith) (omega arith) (omega (arith, found.ensures)) ∙ ap (count_trailing_zeros 64) (sym found.ensures) in
-    record {
-      bytes = omega (arith, run, c.wide.invariant.run);
-      chars = count_stops begins c.args.text.now c.wide.i k c.wide.n c.starts_before.result c.wide.invariant.chars (stop (goal.at.returns-then-found-ne0 c).Then-found-ne0) c.starts_before.ensures;
-      bound = omega (arith, run, c.wide.invariant.run, prefix_len-le-length (is_quiet c.args.class) c.args.text.now);
-    }
-
-pub wide-preserved : goal.wide-preserved
-wide-preserved c =
-    let run = run_through (is_stop c.args.class) (is_quiet c.args.class) (λ x. refl) c.args.text.now c.wide.i 16 (omega arith) (omega (arith, c.stops-found.ensures)) in
-    let goes = count_goes begins c.args.text.now c.wide.i c.wide.n c.starts.result c.wide.invariant.chars c.starts.ensures in
-    record {
-      run = omega (arith, run, c.wide.invariant.run);
-      within = omega arith;
-      chars = goes;
-      fewer = omega (arith, goes, count_small begins (c.wide.i + 16) c.args.text.now);
-    }
-
-pub part-requires-clause-order : goal.part-requires-clause-order
-part-requires-clause-order c = omega (arith, c.slow_end-end.ensures)
-
-pub part-requires-clause-within : goal.part-requires-clause-within
-part-requires-clause-within c = omega (arith, c.slow_end-end.ensures, c.wide.invariant.run, prefix_len-le-length (is_quiet c.args.class) c.args.text.now)
-
-pub returns-clause-chars : goal.returns-clause-chars
-returns-clause-chars c =
-    let s = c.count_chars.ensures.value ∙ ap (λ (x : List ℕ). count_by begins x) c.part.ensures in
-    count_part begins c.args.text.now c.wide.i c.slow_end-end.result c.wide.n c.count_chars.result c.wide.invariant.chars (omega (arith, c.slow_end-end.ensures)) s
-
-pub returns-clause-bound : goal.returns-clause-bound
-returns-clause-bound c = omega (arith, c.slow_end-end.ensures, c.wide.invariant.run, prefix_len-le-length (is_quiet c.args.class) c.args.text.now)
+pub returns-clause-clear : goal.returns-clause-clear
+returns-clause-clear c = quiet_is_clear c.args.class c.args.text.now c.quiet_bytes-n.result.0 c.requires c.quiet_bytes-n.ensures.bytes

@@ -2,6 +2,7 @@ use Rattle.std.proofs.Common.{◌≡◌, ◌∷◌, ◌++◌, List, length-appen
 use Rattle.yaml_scan.specs.Token.{yaml_token_t}
 use Rattle.yaml_scan.specs.Words.{HaveWords}
 use Rattle.yaml_scan.specs.declared.groups.group_t.{group_t}
+use Rattle.yaml_scan.specs.inside.Scanner.{scanner_of}
 use Rattle.yaml_scan.specs.inside.Handed.{group_tokens}
 use Rattle.yaml_scan.specs.inside.Scanning.{groups_in}
 use Rattle.yaml_scan.proofs.RunningCalls.DrainedTokens.{drained_so_far, more_drained}
@@ -11,17 +12,17 @@ use Rattle.yaml_scan.proofs.batch.drain.Goals as goal
 
 pub give_head-requires-clause-words : goal.give_head-requires-clause-words
 give_head-requires-clause-words g c =
-    let a = c.args.scanner.now in
-    let s = c.groups.scanner in
+    let a = (scanner_of c.args.text.now c.args.state.now) in
+    let s = (scanner_of c.args.text.now c.groups.state) in
     let w = drained_so_far a s (λ ts. g.S.yaml_token_sink_t.took c.args.sink.now ts c.groups.sink) c.groups.any c.requires.runs c.requires.still_open c.groups.invariant.0 in
     let v = w.1.given in
     subst (λ (z : List yaml_token_t). HaveWords z) (sym (told_as a s v.text v.refusal v.limit)) c.requires.words
 
 pub groups-preserved : goal.groups-preserved
 groups-preserved g c =
-    let a = c.args.scanner.now in
-    let s = c.groups.scanner in
-    let t = c.give_head.new.scanner in
+    let a = (scanner_of c.args.text.now c.args.state.now) in
+    let s = (scanner_of c.args.text.now c.groups.state) in
+    let t = (scanner_of c.args.text.now c.give_head.new.state) in
     let h = c.in-Ok.ensures in
     let y = h.0 in
     let took = g.S.yaml_token_sink_t.took in

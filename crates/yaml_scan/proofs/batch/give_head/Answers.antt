@@ -1,13 +1,14 @@
 use Rattle.std.proofs.Common.{◌∷◌, [], ◌++◌, List, sym, subst}
 use Rattle.yaml_text.specs.Token.{token_of}
 use Rattle.yaml_scan.specs.Groups.{Token}
+use Rattle.yaml_scan.specs.inside.Scanner.{scanner_of}
 use Rattle.yaml_scan.specs.inside.Handed.{Gives, told_leads}
 use Rattle.yaml_scan.specs.inside.Scanning.{groups_in}
 use Rattle.yaml_scan.proofs.batch.give_head.Goals as goal
 
 pub returns-then-is_bare : goal.returns-then-is_bare
 returns-then-is_bare g c = let t = c.take_group-group.ensures in let y = c.take_group-group.result in
-    let none = c.is_bare.ensures c.if-is_bare.true y (groups_in c.take_group-group.new.scanner) t.head in (
+    let none = c.is_bare.ensures c.if-is_bare.true y (groups_in (scanner_of c.args.text.now c.take_group-group.new.state)) t.head in (
       y,
       t.head,
       t.drains,

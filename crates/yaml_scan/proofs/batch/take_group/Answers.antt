@@ -1,13 +1,14 @@
 use Rattle.std.proofs.Common.{◌≡◌, ◌+◌, ◌∷◌, ◌++◌, Option, refl, ap, sym, ◌∙◌, ℕ, arith}
 use Rattle.std.specs.Prelude.{option_to_list}
 use Rattle.yaml_scan.specs.declared.groups.group_t.{group_t}
+use Rattle.yaml_scan.specs.inside.Scanner.{scanner_of}
 use Rattle.yaml_scan.specs.inside.Scanning.{groups_in}
 use Rattle.yaml_scan.proofs.RunningCalls.HeadGroup.{group_drained, group_few, group_words, ready_head}
 use Rattle.yaml_scan.proofs.batch.take_group.Goals as goal
 
-pub overflow_add-scanner-2 : goal.overflow_add-scanner-2
-overflow_add-scanner-2 c =
-    let s = c.args.scanner.now in
+pub overflow_add-state-2 : goal.overflow_add-state-2
+overflow_add-state-2 c =
+    let s = (scanner_of c.args._text.now c.args.state.now) in
     let y = c.unwrap-group.result in
     let ys = c.pop_front.new.self.items in
     let h : groups_in s ≡ y ∷ ys = c.pop_front.ensures.items ∙ ap (λ (o : Option group_t). option_to_list o ++ ys) c.unwrap-group.ensures in
@@ -17,7 +18,7 @@ overflow_add-scanner-2 c =
 
 pub returns-clause-drains : goal.returns-clause-drains
 returns-clause-drains c =
-    let s = c.args.scanner.now in
+    let s = (scanner_of c.args._text.now c.args.state.now) in
     let y = c.unwrap-group.result in
     let ys = c.pop_front.new.self.items in
     let h : groups_in s ≡ y ∷ ys = c.pop_front.ensures.items ∙ ap (λ (o : Option group_t). option_to_list o ++ ys) c.unwrap-group.ensures in
@@ -28,7 +29,7 @@ returns-clause-drains c =
 
 pub returns-clause-words : goal.returns-clause-words
 returns-clause-words c =
-    let s = c.args.scanner.now in
+    let s = (scanner_of c.args._text.now c.args.state.now) in
     let y = c.unwrap-group.result in
     let ys = c.pop_front.new.self.items in
     let h : groups_in s ≡ y ∷ ys = c.pop_front.ensures.items ∙ ap (λ (o : Option group_t). option_to_list o ++ ys) c.unwrap-group.ensures in

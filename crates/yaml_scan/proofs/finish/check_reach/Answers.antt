@@ -3,22 +3,23 @@ use Rattle.std.specs.Option.{is_some}
 use Rattle.yaml_lexeme.specs.LexemeOf.{lexeme_of}
 use Rattle.yaml_scan.specs.SourceOf.{source_of}
 use Rattle.yaml_scan.specs.Step.{front_of}
+use Rattle.yaml_scan.specs.inside.Scanner.{scanner_of}
 use Rattle.yaml_scan.specs.inside.Scanning.{lost_after, met_in}
 use Rattle.yaml_scan.specs.inside.Slots.{Held, lost_held}
 use Rattle.yaml_scan.specs.inside.TextReads.{IsRead}
 use Rattle.yaml_scan.proofs.RunningStep.StepMoves.{read_in}
 use Rattle.yaml_scan.proofs.finish.check_reach.Goals as goal
-use Rattle.yaml_scan.proofs.finish.check_reach.Goals.{then-scanner-reach-via-then-scanner-reach, then-scanner-reach-via-else-scanner-reach+then-lost}
+use Rattle.yaml_scan.proofs.finish.check_reach.Goals.{then-state-reach-via-then-state-reach, then-state-reach-via-else-state-reach+then-lost}
 
 pub stop_after-requires : goal.stop_after-requires
 stop_after-requires g c =
-    let s = c.args.scanner.now in
+    let s = (scanner_of c.args.text.now c.args.state.now) in
     let q = c.args.step in
     let x = lexeme_of c.args.lexeme.now in
     let can = c.requires.0 in
-    let stops : (s.near ≤ x.reach.index) ⊎ (is_some (lost_after s.limit s.slots (met_in s q) q.new x.reach) ≡ true) = elim c.then-scanner-reach.branch [
-      | then-scanner-reach-via-then-scanner-reach w ↦ inl (w.if-scanner-reach.true)
-      | then-scanner-reach-via-else-scanner-reach+then-lost w ↦ inr (ap (λ (o : Option Held). is_some (lost_held s.limit x.reach o)) (sym c.root_after.ensures) ∙ sym c.is_lost-lost.ensures ∙ w.if-lost.true)
+    let stops : (s.near ≤ x.reach.index) ⊎ (is_some (lost_after s.limit s.slots (met_in s q) q.new x.reach) ≡ true) = elim c.then-state-reach.branch [
+      | then-state-reach-via-then-state-reach w ↦ inl (w.if-state-reach.true)
+      | then-state-reach-via-else-state-reach+then-lost w ↦ inr (ap (λ (o : Option Held). is_some (lost_held s.limit x.reach o)) (sym c.root_after.ensures) ∙ sym c.is_lost-lost.ensures ∙ w.if-lost.true)
     ] in (
       q,
       x,

@@ -4,6 +4,7 @@ use Rattle.std.proofs.lemmas.Bool.{cases_Bool}
 use Rattle.yaml_text.specs.declared.types.yaml_mark_t.{yaml_mark_t}
 use Rattle.yaml_lexeme.specs.LexemeOf.{lexeme_of}
 use Rattle.yaml_scan.specs.Kind.{is_value}
+use Rattle.yaml_scan.specs.inside.Scanner.{scanner_of}
 use Rattle.yaml_scan.specs.inside.Handed.{group_with, lone, read_to}
 use Rattle.yaml_scan.specs.inside.Scanning.{IsDecided, IsFollower, IsWaiting, groups_in}
 use Rattle.yaml_scan.proofs.RunningStep.DecidedLaid as decided
@@ -12,10 +13,10 @@ use Rattle.yaml_scan.proofs.follower.lay_both.Goals as goal
 
 pub lay_levels-ends-requires-clause-falls : goal.lay_levels-ends-requires-clause-falls
 lay_levels-ends-requires-clause-falls g c = λ n.
-    let s = c.args.scanner.now in
-    let x = c.requires.1.0 in
-    let r = c.requires.1.1 in
-    let q = c.requires.1.2 in
+    let s = (scanner_of c.requires.1.0 c.args.state.now) in
+    let x = c.requires.1.1 in
+    let r = c.requires.1.2 in
+    let q = c.requires.1.3 in
     let k = c.args.decider.now.kind in
     let y = lexeme_of c.args.decider.now.lexeme in
     let d : IsDecided s q.0 c.args.step c.args.at k y = subst (λ (w : Bool). IsFollower s q.0 c.args.step c.args.at w k y) n q.1 in
@@ -23,18 +24,18 @@ lay_levels-ends-requires-clause-falls g c = λ n.
 
 pub drop_candidate-requires : goal.drop_candidate-requires
 drop_candidate-requires g c =
-    let s = c.args.scanner.now in
-    let x = c.requires.1.0 in
-    let r = c.requires.1.1 in
-    let q = c.requires.1.2 in
+    let s = (scanner_of c.requires.1.0 c.args.state.now) in
+    let x = c.requires.1.1 in
+    let r = c.requires.1.2 in
+    let q = c.requires.1.3 in
     let w = (not (nat_eq g.row.WAITS 0)) in
     let k = c.args.decider.now.kind in
     let y = lexeme_of c.args.decider.now.lexeme in
     waiting.follower_no_start g.before s c.args.step x r.1 q.0 w k y (subst (λ (m : yaml_mark_t). IsFollower s q.0 c.args.step m w k y) (sym r.0) q.1)
 
 pub returns-clause-laid : goal.returns-clause-laid
-returns-clause-laid g c = λ sparing d b e passed t z p F T Z.
-    let s = c.args.scanner.now in
+returns-clause-laid g c = λ X sparing d b e passed t z p F T Z.
+    let s = (scanner_of X c.args.state.now) in
     let r = c.args.step in
     let k = c.args.decider.now.kind in
     let y = lexeme_of c.args.decider.now.lexeme in
@@ -43,8 +44,8 @@ returns-clause-laid g c = λ sparing d b e passed t z p F T Z.
     let new = c.drop_candidate.new.slots in
     let levels = c.lay_levels-ends.ensures in
     let key = c.is_key-key.ensures in
-    let allows = c.is_allowed_after-scanner.ensures in
-    let a = c.is_allowed_after-scanner.result in
+    let allows = c.is_allowed_after-state.ensures in
+    let a = c.is_allowed_after-state.result in
     elim (cases_Bool (not (nat_eq g.row.WAITS 0))) [
       | inl w ↦
           let f : IsWaiting s r c.args.at k y = subst (λ (i : Bool). IsFollower s sparing r c.args.at i k y) w F in
@@ -66,7 +67,6 @@ returns-clause-laid g c = λ sparing d b e passed t z p F T Z.
             reach = y.reach;
             front = s.front;
             there = s.there;
-            kept = s.kept;
             taken = s.taken;
             made = s.made + 1;
           }))

@@ -1,20 +1,22 @@
 use Rattle.std.proofs.Common.{◌≡◌, sym, subst, ◌∙◌, inr, arith}
-use Rattle.std.specs.Prelude.{◌⊎◌, option_map}
+use Rattle.std.specs.Prelude.{◌⊎◌}
 use Rattle.std.proofs.lemmas.Bool.{false≢true}
-use Rattle.yaml_text.specs.Fault.{Fault, fault_of}
-use Rattle.yaml_scan.specs.inside.Ready.{parser_of, IsShort, IsEnded}
-use Rattle.yaml_scan.proofs.RunningCalls.CallAnswers.{show_token, show_fault_of, open_session}
+use Rattle.yaml_text.specs.Fault.{Fault}
+use Rattle.yaml_scan.specs.inside.Scanner.{scanner_of}
+use Rattle.yaml_scan.specs.inside.Ready.{fault_in, parser_of, IsShort, IsEnded, scanner_in}
+use Rattle.yaml_scan.proofs.RunningCalls.CallAnswers.{show_token, show_fault_of, open_session, open_as, none_failed}
 use Rattle.yaml_scan.proofs.RunningCalls.ParserInvariant.{stands_ready, keeps_settled, keeps_stopped, reach_in, reach_stopped}
 use Rattle.yaml_scan.proofs.parser.show.Goals as goal
 
 pub invariant_of-parser : goal.invariant_of-parser
 invariant_of-parser c = let i = c.parser.inside in let v = c.parser.invariant in let k = c.in-Ok.ensures in
-    let w = keeps_settled i.setting i.input.now i.scanner c.settle.new.scanner k (stands_ready i.setting i.input.now i.scanner (v.ready c.if-parser.false)) i.scanner.layout.queue.done (record { queued = v.queued; few = v.few }) in
+    let w = keeps_settled i.setting i.input.now (scanner_in i) (scanner_of c.settle.new.text c.settle.new.state) k (stands_ready i.setting i.input.now (scanner_in i) (v.ready c.if-parser.false)) i.state.layout.queue.done (record { queued = v.queued; few = v.few }) in
     record {
       ready = λ n. inr (k.stands, k.still_open);
       peeked = λ n. (c.if-parser.false, record { stands = k.stands; still_open = k.still_open; settled = k.settled });
-      lead = λ n. c.show_lead.ensures c.settle.new.scanner.text.encoding;
-      reach = reach_in i.setting i.input.now c.settle.new.scanner k.stands;
+      failed = v.failed;
+      lead = λ n. c.show_lead.ensures c.settle.new.text.encoding;
+      reach = reach_in i.setting i.input.now (scanner_of c.settle.new.text c.settle.new.state) k.stands;
       empty = v.empty;
       limit = (let a = v.limit in let b = k.limit in omega arith);
       queued = (let a = w.queued in let b = k.done in omega arith);
@@ -23,12 +25,13 @@ invariant_of-parser c = let i = c.parser.inside in let v = c.parser.invariant in
 
 pub invariant_of-parser-in-Err : goal.invariant_of-parser-in-Err
 invariant_of-parser-in-Err c = let i = c.parser.inside in let v = c.parser.invariant in let k = c.in-Err.ensures.1 in
-    let w = keeps_stopped i.setting i.input.now i.scanner c.settle.new.scanner k (stands_ready i.setting i.input.now i.scanner (v.ready c.if-parser.false)) i.scanner.layout.queue.done (record { queued = v.queued; few = v.few }) in
-    rw c.end.ensures (record {
+    let w = keeps_stopped i.setting i.input.now (scanner_in i) (scanner_of c.settle.new.text c.settle.new.state) k (stands_ready i.setting i.input.now (scanner_in i) (v.ready c.if-parser.false)) i.state.layout.queue.done (record { queued = v.queued; few = v.few }) in
+    rw (c.end.ensures.session, c.end.ensures.kept) (record {
       ready = λ n. absurd (false≢true (sym n));
       peeked = λ n. absurd (false≢true n);
+      failed = λ n. absurd (false≢true (sym n));
       lead = λ n. absurd (false≢true n);
-      reach = reach_stopped i.setting i.input.now i.scanner c.settle.new.scanner k;
+      reach = reach_stopped i.setting i.input.now (scanner_in i) (scanner_of c.settle.new.text c.settle.new.state) k;
       empty = v.empty;
       limit = (let a = v.limit in let b = k.limit in omega arith);
       queued = (let a = w.queued in let b = k.done in omega arith);
@@ -38,9 +41,9 @@ invariant_of-parser-in-Err c = let i = c.parser.inside in let v = c.parser.invar
 pub returns-in-Ok : goal.returns-in-Ok
 returns-in-Ok c = let i = c.parser.inside in
     let e : c.args.parser.now ≡ parser_of i = sym c.parser.view_is in
-    show_token i.setting i.input.now i.scanner c.settle.new.scanner c.in-Ok.ensures i.session.peeked (option_map fault_of i.session.fault) c.args.parser.now (e ∙ open_session (parser_of i) c.if-parser.false) i.session.over c.if-parser.false
+    show_token i.setting i.input.now (scanner_in i) (scanner_of c.settle.new.text c.settle.new.state) c.in-Ok.ensures i.session.peeked (fault_in i.session.failed c.settle.new.state.fault) c.args.parser.now (e ∙ open_as (parser_of i) (fault_in i.session.failed c.settle.new.state.fault) c.if-parser.false (none_failed i.session.failed i.state.fault c.settle.new.state.fault (c.parser.invariant.failed c.if-parser.false))) i.session.over c.if-parser.false
 
 pub returns-in-Err : goal.returns-in-Err
 returns-in-Err c = let i = c.parser.inside in let f = c.in-Err.ensures in
     let e : c.args.parser.now ≡ parser_of i = sym c.parser.view_is in
-    rw c.end.ensures (show_fault_of i.setting i.input.now i.scanner c.settle.new.scanner i.session.peeked (option_map fault_of i.session.fault) c.fault_at.result f.1 c.args.parser.now (e ∙ open_session (parser_of i) c.if-parser.false) (subst (λ (x : Fault). IsShort i.setting i.input.now i.scanner x ⊎ IsEnded i.setting i.input.now i.scanner c.settle.new.scanner x) (sym c.fault_at.ensures) f.0) f.2)
+    rw (c.end.ensures.session, c.end.ensures.kept) (show_fault_of i.setting i.input.now (scanner_in i) (scanner_of c.settle.new.text c.settle.new.state) i.session.peeked (fault_in i.session.failed i.state.fault) c.fault_at-fault.result f.1 c.args.parser.now (e ∙ open_session (parser_of i) c.if-parser.false) (subst (λ (x : Fault). IsShort i.setting i.input.now (scanner_in i) x ⊎ IsEnded i.setting i.input.now (scanner_in i) (scanner_of c.settle.new.text c.settle.new.state) x) (sym c.fault_at-fault.ensures) f.0) f.2)

@@ -1,19 +1,20 @@
 use Rattle.std.proofs.Common.{refl, arith, drop}
 use Rattle.yaml_text.specs.Token.{token_of}
 use Rattle.yaml_scan.specs.Groups.{offline}
+use Rattle.yaml_scan.specs.inside.Scanner.{scanner_of}
 use Rattle.yaml_scan.specs.inside.Scanning.{history}
 use Rattle.yaml_scan.proofs.RunningCalls.NextOfInput.{few_taken}
 use Rattle.yaml_scan.proofs.RunningCalls.TakingHead.{groups_some, few_done, pops}
 use Rattle.yaml_scan.proofs.parser.take_head.Goals as goal
 
-pub overflow_add-scanner : goal.overflow_add-scanner
-overflow_add-scanner c = let f = few_taken c.args.scanner.now c.requires.runs in omega arith
+pub overflow_add-state : goal.overflow_add-state
+overflow_add-state c = let f = few_taken (scanner_of c.args._text.now c.args.state.now) c.requires.runs in omega arith
 
 pub take_next-requires-clause-some : goal.take_next-requires-clause-some
-take_next-requires-clause-some c = groups_some c.args.scanner.now c.requires.runs c.requires.settled
+take_next-requires-clause-some c = groups_some (scanner_of c.args._text.now c.args.state.now) c.requires.runs c.requires.settled
 
 pub take_next-requires-clause-few : goal.take_next-requires-clause-few
-take_next-requires-clause-few c = few_done c.args.scanner.now c.requires.runs c.requires.settled
+take_next-requires-clause-few c = few_done (scanner_of c.args._text.now c.args.state.now) c.requires.runs c.requires.settled
 
 pub returns : goal.returns
-returns c = let s = c.args.scanner.now in pops s c.requires.runs c.requires.settled _ (token_of c.take_next.result) (c.take_next.ensures s.text.encoding (drop s.taken (offline (history s))) c.requires.runs.holds.queue) refl refl refl refl refl refl refl refl refl refl
+returns c = let s = (scanner_of c.args._text.now c.args.state.now) in pops s c.requires.runs c.requires.settled _ (token_of c.take_next.result) (c.take_next.ensures s.text.encoding (drop s.taken (offline (history s))) c.requires.runs.holds.queue) refl refl refl refl refl refl refl refl refl refl

@@ -1,5 +1,6 @@
 use Rattle.std.proofs.Common.{◌≡◌, ℕ, List, Option, true, false, not, length, deque_len, ap, sym, ◌∙◌, arith}
 use Rattle.std.specs.Prelude.{nat_eq}
+use Rattle.yaml_scan.specs.inside.Scanner.{scanner_of}
 use Rattle.yaml_scan.specs.inside.Slots.{Held, step_of, lowest}
 use Rattle.yaml_scan.specs.inside.Queue.{pending, begins_with_end}
 use Rattle.yaml_scan.specs.inside.Scanning.{history}
@@ -10,10 +11,10 @@ use Rattle.yaml_scan.proofs.RunningQueue.SlotOrder.{outer_more}
 use Rattle.yaml_scan.proofs.settled.is_settled.Goals as goal
 
 pub is_awaited-requires : goal.is_awaited-requires
-is_awaited-requires c = let s = c.args.scanner.now in let a = c.requires.holds.count in let b = history_length s c.requires in let d = few_made s c.requires in let e = c.requires.begun in omega arith
+is_awaited-requires c = let s = (scanner_of c.args._text.now c.args.state.now) in let a = c.requires.holds.count in let b = history_length s c.requires in let d = few_made s c.requires in let e = c.requires.begun in omega arith
 
 pub returns-then-not-is_empty : goal.returns-then-not-is_empty
-returns-then-not-is_empty c = let s = c.args.scanner.now in let g = c.requires.holds in let q = s.layout.queue in let n : deque_len q.groups ≡ length q.groups.items = omega arith in
+returns-then-not-is_empty c = let s = (scanner_of c.args._text.now c.args.state.now) in let g = c.requires.holds in let q = s.layout.queue in let n : deque_len q.groups ≡ length q.groups.items = omega arith in
     ap not c.is_awaited.ensures
     ∙ settled_test s.limit (history s) g.is_history s.taken g.taken q.done (begins_with_end (pending q.early q.front q.groups.items))
     (λ k x e l. head_awaited s.limit (history s) k x s.taken s.text.encoding q.early q.front q.groups.items q.done g.is_history g.queue g.count e l)
@@ -21,7 +22,7 @@ returns-then-not-is_empty c = let s = c.args.scanner.now in let g = c.requires.h
     s.slots.awaited (g.awaited ∙ ap (λ (hs : List (Option Held)). step_of (lowest hs)) (outer_more s.limit (history s) s.slots.outer.items s.slots.top g.outer g.top))
 
 pub returns-else-not-is_empty : goal.returns-else-not-is_empty
-returns-else-not-is_empty c = let s = c.args.scanner.now in let g = c.requires.holds in let q = s.layout.queue in let n : deque_len q.groups ≡ length q.groups.items = omega arith in
+returns-else-not-is_empty c = let s = (scanner_of c.args._text.now c.args.state.now) in let g = c.requires.holds in let q = s.layout.queue in let n : deque_len q.groups ≡ length q.groups.items = omega arith in
     ap not c.if-not-is_empty.false
     ∙ settled_test s.limit (history s) g.is_history s.taken g.taken q.done (begins_with_end (pending q.early q.front q.groups.items))
     (λ k x e l. head_awaited s.limit (history s) k x s.taken s.text.encoding q.early q.front q.groups.items q.done g.is_history g.queue g.count e l)

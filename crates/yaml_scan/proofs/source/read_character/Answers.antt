@@ -8,4 +8,4 @@ unfolding source_of
 yaml_read_character-requires-clause-place c = c.requires.place
 
 pub returns : goal.returns
-returns c = λ p depth level i. read_there c.args.scanner.now.text.chars c.args.kind depth level p (lexeme_of c.yaml_read_character.result) (c.yaml_read_character.ensures p (record { depth = depth; level = level }) i)
+returns c = λ p depth level i. read_there c.args.text.now.chars c.args.kind depth level p (lexeme_of c.yaml_read_character.result) (c.yaml_read_character.ensures p (record { depth = depth; level = level }) i)

@@ -1,15 +1,16 @@
 use Rattle.std.proofs.Common.{◌∙◌, refl, sym}
 use Rattle.yaml_lexeme.specs.KindSets.{name_kind}
+use Rattle.yaml_scan.specs.inside.Scanner.{scanner_of}
 use Rattle.yaml_scan.proofs.Texts.TextPlaces.{reads_in, reads_well}
 use Rattle.yaml_scan.proofs.source.read_name.Goals as goal
 
 pub returns-then-is_err : goal.returns-then-is_err
 returns-then-is_err c =
-    let read = reads_in c.args.scanner.now (name_kind c.args.anchor) c.args.context c.yaml_read_name-read.new.spot.at c.yaml_read_name-read.result (λ p i. c.yaml_read_name-read.ensures.value p c.args.context i) in
+    let read = reads_in (scanner_of c.args.text.now c.args.state.now) (name_kind c.args.anchor) c.args.context c.yaml_read_name-read.new.spot.at c.yaml_read_name-read.result (λ p i. c.yaml_read_name-read.ensures.value p c.args.context i) in
     record { read = read; same = refl }
 
 pub returns-else-is_err : goal.returns-else-is_err
 returns-else-is_err c =
     let fine = sym c.is_err.ensures.value ∙ c.if-is_err.false in
-    let read = reads_well c.args.scanner.now (name_kind c.args.anchor) c.args.context c.yaml_read_name-read.new.spot.at c.args.scanner.now.there c.yaml_read_name-read.result fine (λ p i. c.yaml_read_name-read.ensures.value p c.args.context i) in
+    let read = reads_well (scanner_of c.args.text.now c.args.state.now) (name_kind c.args.anchor) c.args.context c.yaml_read_name-read.new.spot.at c.args.state.now.there c.yaml_read_name-read.result fine (λ p i. c.yaml_read_name-read.ensures.value p c.args.context i) in
     record { read = read; same = refl }

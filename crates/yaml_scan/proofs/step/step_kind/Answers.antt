@@ -1,14 +1,33 @@
-use Rattle.yaml_scan.proofs.RunningStep.StepMoves.{queued_step}
+use Rattle.yaml_scan.specs.inside.Scanner.{scanner_of}
+use Rattle.yaml_scan.proofs.RunningStep.StepMoves.{on_ok_same, queued_step}
 use Rattle.yaml_scan.proofs.step.step_kind.Goals as goal
 
 pub returns-in_default-clause-steps : goal.returns-in_default-clause-steps
-returns-in_default-clause-steps g c = queued_step g.before c.args.scanner.now c.step_other.new.scanner _ _ _ c.step_other.result (g.met.S.yaml_token_sink_t.took_none c.args.sink.now) c.step_other.ensures
+returns-in_default-clause-steps g c = queued_step g.before (scanner_of c.args.text.now c.args.state.now) (scanner_of c.args.text.now c.step_other.new.state) _ _ _ c.step_other.result (g.met.S.yaml_token_sink_t.took_none c.args.sink.now) c.step_other.ensures
 
 pub returns-in-ALIAS-clause-steps : goal.returns-in-ALIAS-clause-steps
-returns-in-ALIAS-clause-steps g c = queued_step g.before c.args.scanner.now c.step_name.new.scanner _ _ _ c.step_name.result (g.met.S.yaml_token_sink_t.took_none c.args.sink.now) c.step_name.ensures
+returns-in-ALIAS-clause-steps g c = queued_step g.before (scanner_of c.args.text.now c.args.state.now) (scanner_of c.args.text.now c.step_name.new.state) _ _ _ c.step_name.result (g.met.S.yaml_token_sink_t.took_none c.args.sink.now) c.step_name.ensures
 
 pub returns-in-ANCHOR-clause-steps : goal.returns-in-ANCHOR-clause-steps
-returns-in-ANCHOR-clause-steps g c = queued_step g.before c.args.scanner.now c.step_name-in-ANCHOR.new.scanner _ _ _ c.step_name-in-ANCHOR.result (g.met.S.yaml_token_sink_t.took_none c.args.sink.now) c.step_name-in-ANCHOR.ensures
+returns-in-ANCHOR-clause-steps g c = queued_step g.before (scanner_of c.args.text.now c.args.state.now) (scanner_of c.args.text.now c.step_name-in-ANCHOR.new.state) _ _ _ c.step_name-in-ANCHOR.result (g.met.S.yaml_token_sink_t.took_none c.args.sink.now) c.step_name-in-ANCHOR.ensures
 
 pub returns-in-TAG-clause-steps : goal.returns-in-TAG-clause-steps
-returns-in-TAG-clause-steps g c = queued_step g.before c.args.scanner.now c.step_tag.new.scanner _ _ _ c.step_tag.result (g.met.S.yaml_token_sink_t.took_none c.args.sink.now) c.step_tag.ensures
+returns-in-TAG-clause-steps g c = queued_step g.before (scanner_of c.args.text.now c.args.state.now) (scanner_of c.args.text.now c.step_tag.new.state) _ _ _ c.step_tag.result (g.met.S.yaml_token_sink_t.took_none c.args.sink.now) c.step_tag.ensures
+
+pub returns-in-STREAM_END-clause-steps : goal.returns-in-STREAM_END-clause-steps
+returns-in-STREAM_END-clause-steps g c = queued_step g.before (scanner_of c.args.text.now c.args.state.now) (scanner_of c.args.text.now c.step_stream_end.new.state) _ _ _ c.step_stream_end.result (g.met.S.yaml_token_sink_t.took_none c.args.sink.now) c.step_stream_end.ensures
+
+pub returns-in_default-clause-within : goal.returns-in_default-clause-within
+returns-in_default-clause-within g c = on_ok_same (g.S.yaml_token_sink_t.within c.args.sink.now) c.step_other.result
+
+pub returns-in-ALIAS-clause-within : goal.returns-in-ALIAS-clause-within
+returns-in-ALIAS-clause-within g c = on_ok_same (g.S.yaml_token_sink_t.within c.args.sink.now) c.step_name.result
+
+pub returns-in-ANCHOR-clause-within : goal.returns-in-ANCHOR-clause-within
+returns-in-ANCHOR-clause-within g c = on_ok_same (g.S.yaml_token_sink_t.within c.args.sink.now) c.step_name-in-ANCHOR.result
+
+pub returns-in-TAG-clause-within : goal.returns-in-TAG-clause-within
+returns-in-TAG-clause-within g c = on_ok_same (g.S.yaml_token_sink_t.within c.args.sink.now) c.step_tag.result
+
+pub returns-in-STREAM_END-clause-within : goal.returns-in-STREAM_END-clause-within
+returns-in-STREAM_END-clause-within g c = on_ok_same (g.S.yaml_token_sink_t.within c.args.sink.now) c.step_stream_end.result

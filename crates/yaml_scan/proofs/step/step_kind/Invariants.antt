@@ -26,3 +26,6 @@ ghost-step_name-2 g a = g.before
 
 abbrev pub ghost-step_tag : goal.ghost-step_tag
 ghost-step_tag g a = g.before
+
+abbrev pub ghost-step_stream_end : goal.ghost-step_stream_end
+ghost-step_stream_end g a = g.before

@@ -5,7 +5,7 @@ use Rattle.yaml_lexeme.specs.declared.problem.yaml_refusal_t.{yaml_refusal_t}
 use Rattle.yaml_lexeme.specs.declared.problem.yaml_refusal_t.TheVariants.{OFFENCE}
 use Rattle.yaml_lexeme.specs.Answers.{refused_at}
 use Rattle.yaml_scan.specs.declared.met.step_t.{step_t}
-use Rattle.yaml_scan.specs.declared.scanner.scanner_t.{scanner_t}
+use Rattle.yaml_scan.specs.inside.Scanner.{Scanner, scanner_of}
 use Rattle.yaml_scan.specs.Kind.{Kind}
 use Rattle.yaml_scan.specs.SourceOf.{source_of}
 use Rattle.yaml_scan.specs.Step.{front_of}
@@ -15,7 +15,7 @@ use Rattle.yaml_scan.specs.Laid.{Laid}
 use Rattle.yaml_scan.proofs.RunningStep.StepTests.{offence_there}
 use Rattle.yaml_scan.proofs.stop.stop_in_lexeme.Goals as goal
 
-offends : (H : List Laid) (s : scanner_t) (q : step_t) (k : Kind) (r : yaml_refusal_t) (p : yaml_problem_t) → CanRead H s q → q.kind ≡ k → r ≡ OFFENCE p → IsReadIn s k q.context s.there (Err r) → Offends H s (refused_at k s.front s.there r)
+offends : (H : List Laid) (s : Scanner) (q : step_t) (k : Kind) (r : yaml_refusal_t) (p : yaml_problem_t) → CanRead H s q → q.kind ≡ k → r ≡ OFFENCE p → IsReadIn s k q.context s.there (Err r) → Offends H s (refused_at k s.front s.there r)
 offends H s q k r p c e o f = elim (f (front_of (source_of s.text.chars) H) c.met.front) [
   | inl m ↦ absurd (cc)
   | inr w ↦ offence_there H s q c (refused_at k s.front s.there r) (subst (λ (z : Kind). IsOffence s.text.chars z q.context.depth q.context.level (front_of (source_of s.text.chars) H) (refused_at k s.front s.there r)) (sym e) w)
@@ -23,4 +23,4 @@ offends H s q k r p c e o f = elim (f (front_of (source_of s.text.chars) H) c.me
 
 pub keep_nearest-requires : goal.keep_nearest-requires
 keep_nearest-requires g c = let w = c.requires in let can = w.1 in
-    (can.can, subst (λ (f : Fault). Offends g.before c.args.scanner.now f) (sym c.yaml_lexeme_fault-fault.ensures) (offends g.before c.args.scanner.now w.0 c.args.kind c.args.refusal c.in-OFFENCE.field-0 can w.2 c.in-OFFENCE.is w.3))
+    (can.can, subst (λ (f : Fault). Offends g.before (scanner_of c.args.text.now c.args.state.now) f) (sym c.yaml_lexeme_fault-fault.ensures) (offends g.before (scanner_of c.args.text.now c.args.state.now) w.0 c.args.kind c.args.refusal c.in-OFFENCE.field-0 can w.2 c.in-OFFENCE.is w.3))

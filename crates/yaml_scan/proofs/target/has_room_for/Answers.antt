@@ -10,4 +10,4 @@ returns g c = λ e w y after E T t.
     let i = starts_few y.opens in
     let j = keys_few y.key in
     let l = group_len y in
-    c.has_room.ensures e w (group_tokens y) after (omega arith) (omega arith) t
+    c.has_room.ensures.room e w (group_tokens y) after (omega arith) (omega arith) t

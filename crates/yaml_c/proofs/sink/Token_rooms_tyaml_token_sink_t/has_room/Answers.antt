@@ -2,8 +2,8 @@ use Rattle.std.proofs.Common.{rules, ◌<◌, ◌^◌, length, leb-true, arith}
 use Rattle.yaml_c.proofs.TokensPut.{Fits, have_put, same_sizes, texts_are}
 use Rattle.yaml_c.proofs.sink.Token_rooms_tyaml_token_sink_t.has_room.Goals as goal
 
-pub returns-then-count-records : goal.returns-then-count-records
-returns-then-count-records c = λ e within tokens after few short put.
+pub returns-then-count-records-clause-room : goal.returns-then-count-records-clause-room
+returns-then-count-records-clause-room c = λ e within tokens after few short put.
     let a = c.args.self.now in
     let one : length a.tokens.now < 2 ^ 63 = search rules in
     let two : length a.texts.now < 2 ^ 63 = search rules in

@@ -10,6 +10,7 @@ returns c =
     record {
       same_tokens = ap (λ z. z.ghost_name) c.count_token.ensures.tokens;
       same_texts = ap (λ z. z.ghost_name) c.count_token.ensures.texts;
+      same_spare = ap (λ z. z.ghost_name) c.count_token.ensures.spare;
       spelled = c.count_token.ensures.spelled;
       token_count = c.count_token.ensures.token_count;
       text_len = both_counted _ _ _ _ _ _ _ c.first_text-first.ensures c.second_text-second.ensures

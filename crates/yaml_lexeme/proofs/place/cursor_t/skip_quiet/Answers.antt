@@ -8,7 +8,7 @@ use Rattle.yaml_lexeme.proofs.place.cursor_t.skip_quiet.Goals as goal
 use Rattle.yaml_lexeme.proofs.place.cursor_t.skip_quiet.Goals.{After-quiet_len-n}
 
 moved : (c : After-quiet_len-n) → QuietMove c.args.class c.self.inside.mark c.self.inside.bytes.now c.quiet_len-n.result.0 c.quiet_len-n.result.1
-moved c = quiet_moves c.args.class c.self.inside.mark c.self.inside.bytes.now c.quiet_len-n.result.0 c.quiet_len-n.result.1 c.self.invariant.0 c.quiet_len-n.ensures.bytes c.quiet_len-n.ensures.chars
+moved c = quiet_moves c.args.class c.self.inside.mark c.self.inside.bytes.now c.quiet_len-n.result.0 c.quiet_len-n.result.1 c.self.invariant.0 c.quiet_len-n.ensures.line c.quiet_len-n.ensures.narrow c.quiet_len-n.ensures.chars
 
 pub invariant_of-self : goal.invariant_of-self
 invariant_of-self c =

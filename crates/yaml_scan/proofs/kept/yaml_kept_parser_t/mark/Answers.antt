@@ -7,4 +7,4 @@ use Rattle.yaml_scan.proofs.kept.yaml_kept_parser_t.mark.Goals as goal
 
 pub returns : goal.returns
 unfolding course_by
-returns c = λ p k. ap (λ (z : yaml_kept_parser_t). z.reach) k.kept ∙ k.sound.reach ∙ ap (λ (z : Parser). session_reach (course_read z) z.session) k.seen_as
+returns c = λ p k. ap (λ (z : yaml_kept_parser_t). z.state.reach) k.kept ∙ k.sound.reach ∙ ap (λ (z : Parser). session_reach (course_read z) z.session) k.seen_as

@@ -16,16 +16,16 @@ not_true true e = absurd (false≢true e)
 
 pub text_again-text-requires : goal.text_again-text-requires
 text_again-text-requires c = λ u. let k = c.requires.2 in
-    let on : (c.args.self.now.session.over ≡ false) × (0 < c.args.self.now.made) = elim c.if-kept-gt0.branch [
+    let on : (c.args.self.now.session.over ≡ false) × (0 < c.args.self.now.state.made) = elim c.if-kept-gt0.branch [
       | then-kept-gt0 w ↦ (not_true c.args.self.now.session.over (sym w.under_way-is ∙ u), w.if-kept-gt0.true)
       | else-kept-gt0 w ↦ (let n = w.if-kept-gt0.false in let m = ltb-true _ _ (sym w.under_way-is ∙ u) in absurd (omega arith))
     ] in
     let over_is = ap (λ (z : yaml_kept_parser_t). z.session.over) k.kept in
-    let made_is = ap (λ (z : yaml_kept_parser_t). z.made) k.kept in (
-      k.parser.scanner.text,
+    let made_is = ap (λ (z : yaml_kept_parser_t). z.state.made) k.kept in (
+      k.parser.text,
       k.left,
       c.take.ensures.value ∙ ap (λ (z : yaml_kept_parser_t). z.text) k.kept,
-      subst (λ (z : List ℕ). IsKeptOf k.parser.scanner.text z k.left) c.requires.1 (k.text (sym over_is ∙ on.0) (let m = on.1 in omega (arith, made_is, m))),
+      subst (λ (z : List ℕ). IsKeptOf k.parser.text z k.left) c.requires.1 (k.text (sym over_is ∙ on.0) (let m = on.1 in omega (arith, made_is, m))),
     )
 
 pub invariant_of-result : goal.invariant_of-result
@@ -33,35 +33,21 @@ invariant_of-result c = let k = c.requires.2 in let P = k.parser in
     let F : yaml_kept_parser_t → Inside = λ z. record {
       input = c.args.input;
       setting = z.setting;
-      scanner = record {
-        alloc = c.args.alloc;
-        text = c.text_again-text.result;
-        refusal = z.refusal;
-        near = z.near;
-        limit = z.limit;
-        slots = z.slots;
-        allowed = z.allowed;
-        layout = z.layout;
-        reach = z.reach;
-        front = c.args.self.now.reach;
-        there = c.args.self.now.reach;
-        kept = c.make_memory_fault.result;
-        taken = z.taken;
-        made = z.made;
-      };
+      text = c.text_again-text.result;
+      state = z.state;
       session = z.session;
       empty = c.empty.result;
       lead = z.lead;
     } in
     let over_is = ap (λ (z : yaml_kept_parser_t). z.session.over) k.kept in
-    let made_is = ap (λ (z : yaml_kept_parser_t). z.made) k.kept in
+    let made_is = ap (λ (z : yaml_kept_parser_t). z.state.made) k.kept in
     let text_is = c.take.ensures.value ∙ ap (λ (z : yaml_kept_parser_t). z.text) k.kept in
-    let going : c.args.self.now.session.over ≡ false → 0 < c.args.self.now.made → c.if-kept-gt0.under_way ≡ true = λ o m. elim c.if-kept-gt0.branch [
+    let going : c.args.self.now.session.over ≡ false → 0 < c.args.self.now.state.made → c.if-kept-gt0.under_way ≡ true = λ o m. elim c.if-kept-gt0.branch [
       | then-kept-gt0 w ↦ w.under_way-is ∙ (rw o refl)
       | else-kept-gt0 w ↦ (let n = w.if-kept-gt0.false in absurd (omega arith))
     ] in
-    let same : P.session.over ≡ false → 0 < P.scanner.made → c.text_again-text.result ≡ P.scanner.text =
-    λ o m. c.text_again-text.ensures (going (over_is ∙ o) (omega (arith, made_is, m))) P.scanner.text k.left text_is
-    (subst (λ (z : List ℕ). IsKeptOf P.scanner.text z k.left) c.requires.1 (k.text o m)) in
-    rw (c.replace.ensures.value, c.replace-2.ensures.value, c.replace-3.ensures.value) (subst (λ (z : yaml_kept_parser_t). Sound (F z)) (sym k.kept)
+    let same : P.session.over ≡ false → 0 < P.state.made → c.text_again-text.result ≡ P.text =
+    λ o m. c.text_again-text.ensures (going (over_is ∙ o) (omega (arith, made_is, m))) P.text k.left text_is
+    (subst (λ (z : List ℕ). IsKeptOf P.text z k.left) c.requires.1 (k.text o m)) in
+    rw (c.take-2.ensures, c.replace.ensures.value) (subst (λ (z : yaml_kept_parser_t). Sound (F z)) (sym k.kept)
     (goes_on P k.sound c.text_again-text.result same (F (kept_of P k.left)) (sym c.requires.1 ∙ sym (ap (λ (z : Parser). z.input) k.seen_as)) c.empty.ensures))

@@ -1,0 +1,10 @@
+use Rattle.std.proofs.Common.{◌≡◌}
+use Rattle.yaml_scan.specs.Parser.{Parser}
+use Rattle.yaml_scan.specs.inside.Kept.{IsKept}
+use Rattle.unit_tests.proofs.kept_tests.peeked_token_is_the_next.Given as goal
+
+abbrev pub invariant-tokens : goal.invariant-tokens
+invariant-tokens g l = (p : Parser) × (p.input ≡ l.held.input.now) × IsKept p l.held.kept
+
+abbrev pub invariant-peeks : goal.invariant-peeks
+invariant-peeks g l = (p : Parser) × (p.input ≡ l.held.input.now) × IsKept p l.held.kept

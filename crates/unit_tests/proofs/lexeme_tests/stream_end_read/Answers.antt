@@ -1,0 +1,8 @@
+use Rattle.std.proofs.Common.{refl}
+use Rattle.yaml_lexeme.proofs.CountedMarks.CountedPlaces.{marks_counted}
+use Rattle.unit_tests.proofs.lexeme_tests.stream_end_read.Goals as goal
+
+pub yaml_read_stream_end-requires : goal.yaml_read_stream_end-requires
+yaml_read_stream_end-requires c =
+    let place = c.if-not-yaml_is_place.ensures.0 refl in
+    (place.0, (marks_counted c.in-Ok.text.chars c.args.index place.0 c.yaml_mark_at.result place.1).0 (c.yaml_mark_at.ensures place.0 place.1))

@@ -1,0 +1,312 @@
+//! Calls of a kept parser, which stays in its place.
+ghost use Rattle.std.specs.Prelude.{◌≡◌};
+ghost use Rattle.yaml_scan.specs.Parser.{Parser};
+ghost use Rattle.yaml_scan.specs.inside.Kept.{IsKept};
+
+use std::alloc::{AllocError, Global};
+use std::test::Fail;
+use yaml_scan::{
+    yaml_kept_parser_t, yaml_kept_peek, yaml_kept_scan_to, yaml_parser_peek, yaml_parser_scan,
+    yaml_parser_t, yaml_token_sink_t,
+};
+use yaml_text::{unnamed_yaml_token_t_data, yaml_encoding_t, yaml_token_t};
+
+const ANY: yaml_encoding_t = yaml_encoding_t::YAML_ANY_ENCODING;
+
+/// Inputs with tokens that wait for a key, with all texts that a token may have, with a byte order mark, and in UTF-16.
+const INPUTS: [&[u8]; 5] = [
+    b"a:\n  - [b, c]: dd\n  - 'e'\n[f]: |\n  gg\n{h: \"i\"}: j\n",
+    b"%TAG !e! tag:e,2000:\n--- !e!t &anchor long text\n... # end\n--- *anchor\n",
+    b"\xEF\xBB\xBF- [ab, c]: d\n",
+    b"\xFF\xFEk\0e\0y\0:\0 \0[\0v\0,\0 \0\xE9\0]\0\n\0",
+    b"",
+];
+
+/// How many bytes the texts of a token have.
+fn texts_len(token: &yaml_token_t) -> u128 {
+    match &token.token_data {
+        unnamed_yaml_token_t_data::SCALAR { value, style: _ }
+        | unnamed_yaml_token_t_data::ANCHOR { value }
+        | unnamed_yaml_token_t_data::ALIAS { value } => value.len() as u128,
+        unnamed_yaml_token_t_data::TAG { handle, suffix } => {
+            (handle.len() as u128).saturating_add(suffix.len() as u128)
+        }
+        unnamed_yaml_token_t_data::TAG_DIRECTIVE { handle, prefix } => {
+            (handle.len() as u128).saturating_add(prefix.len() as u128)
+        }
+        _ => 0,
+    }
+}
+
+/// Has room for so many tokens and bytes, and compares each token with that of another parser of the same input.
+#[derive(Drop)]
+struct shelf_t<'a> {
+    right: yaml_parser_t<'a>,
+    room: u128,
+    texts: u128,
+    tokens: usize,
+    wrong: usize,
+}
+
+impl<'a> shelf_t<'a> {
+    fn new(alloc: Global, input: &'a [u8]) -> shelf_t<'a> {
+        shelf_t {
+            right: yaml_parser_t::new(alloc, input, ANY),
+            room: 0,
+            texts: 0,
+            tokens: 0,
+            wrong: 0,
+        }
+    }
+}
+
+impl yaml_token_sink_t for shelf_t<'_> {
+    ghost took = { λ _ _ _. Unit {0} };
+
+    ghost may_refuse = { ⊥ };
+
+    ghost within = { λ _. Unit {0} };
+
+    ghost lacks = { λ s count texts. Unit {0} };
+
+    fn put(&mut self, token: yaml_token_t) -> Result<(), AllocError> {
+        let same = match yaml_parser_scan(&mut self.right) {
+            Ok(want) => want == token,
+            Err(_) => false,
+        };
+        let fits = self.room > 0 && texts_len(&token) <= self.texts;
+        if !same || !fits {
+            self.wrong = self.wrong.wrapping_add(1);
+        }
+        self.room = self.room.saturating_sub(1);
+        self.texts = self.texts.saturating_sub(texts_len(&token));
+        self.tokens = self.tokens.wrapping_add(1);
+        Ok(())
+    }
+
+    fn room(&mut self, alloc: Global) -> Vec<u8> {
+        Vec::new(alloc)
+    }
+
+    fn has_room(&self, count: u128, texts: u128) -> bool {
+        count <= self.room && texts <= self.texts
+    }
+
+    ghost took_none = { λ _. tt };
+
+    ghost took_more = { λ _ _ _ _ _ _ _. tt };
+
+    ghost within_none = { λ _ _ _ _. tt };
+}
+
+/// A kept parser beside its input.
+#[derive(Drop)]
+struct held_t<'a> {
+    kept: yaml_kept_parser_t,
+    input: &'a [u8],
+}
+
+impl<'a> held_t<'a> {
+    fn new(alloc: Global, input: &'a [u8]) -> held_t<'a>
+        ensures { (p : Parser) × (p.input ≡ result.input.now) × IsKept p result.kept }
+    {
+        held_t {
+            kept: yaml_kept_parser_t::new(yaml_parser_t::new(alloc, input, ANY)),
+            input,
+        }
+    }
+
+    /// Gives tokens to a sink. Returns whether there is a fault.
+    fn scan_to(&mut self, shelf: &mut shelf_t) -> bool
+        requires { (p : Parser) × (p.input ≡ self.old.input.now) × IsKept p self.old.kept }
+        ensures { (p : Parser) × (p.input ≡ self.new.input.now) × IsKept p self.new.kept }
+    {
+        yaml_kept_scan_to(&mut self.kept, self.input, shelf)
+    }
+
+    /// Shows the next token. Returns whether there is a fault.
+    fn peek(&mut self) -> bool
+        requires { (p : Parser) × (p.input ≡ self.old.input.now) × IsKept p self.old.kept }
+        ensures { (p : Parser) × (p.input ≡ self.new.input.now) × IsKept p self.new.kept }
+    {
+        yaml_kept_peek(&mut self.kept, self.input)
+    }
+}
+
+/// How many tokens an input has.
+fn count_of(alloc: Global, input: &[u8]) -> Result<usize, Fail> {
+    let mut parser = yaml_parser_t::new(alloc, input, ANY);
+    'tokens: for n in 1..200 {
+        match yaml_parser_scan(&mut parser) {
+            Ok(token) => {
+                if matches!(token.token_data, unnamed_yaml_token_t_data::STREAM_END) {
+                    return Ok(n);
+                }
+            }
+            Err(_) => return Err("a fault".into()),
+        }
+    }
+    Err("no stream end".into())
+}
+
+/// How many bytes the next token needs if it was shown, for a sink that had room for so many.
+fn need_of(kept: &yaml_kept_parser_t, texts: u128) -> u128 {
+    match kept.peeked() {
+        Some(token) => texts_len(token),
+        None => texts,
+    }
+}
+
+/// Whether a call stopped at a token that was shown, and that a sink had no room for, or that it had room for none.
+fn stops_rightly(kept: &yaml_kept_parser_t, shelf: &shelf_t) -> bool {
+    match kept.peeked() {
+        Some(token) => shelf.room > 0 && texts_len(token) > shelf.texts,
+        None => shelf.room == 0 || kept.is_over(),
+    }
+}
+
+/// Gives all tokens of an input to a sink, in calls that have room for so many tokens, and bytes, or as many bytes as
+/// the next token needs. Returns how many it got if all are right.
+fn given(alloc: Global, input: &[u8], room: u128, texts: u128) -> Result<usize, Fail> {
+    let mut held = held_t::new(alloc, input);
+    let mut shelf = shelf_t::new(alloc, input);
+    'calls: for _ in 0..300 {
+        shelf.room = room;
+        let need = need_of(&held.kept, texts);
+        shelf.texts = if need > texts { need } else { texts };
+        if held.scan_to(&mut shelf) {
+            return Err("a fault".into());
+        }
+        if !stops_rightly(&held.kept, &shelf) {
+            return Err("stops at a wrong place".into());
+        }
+    }
+    if shelf.wrong > 0 || !held.kept.is_over() {
+        return Err("a wrong token, or no end".into());
+    }
+    Ok(shelf.tokens)
+}
+
+/// Whatever room a sink has, it gets all tokens, and the calls stop only where there is no room.
+#[test]
+fn tokens_go_on_while_there_is_room(rt: HostRuntime) -> Result<(), Fail> {
+    for input in INPUTS {
+        let count = count_of(rt.alloc(), input)?;
+        for room in [1, 2, 3, 7, 1000] {
+            for texts in [0, 1, 2, 5, 1000] {
+                assert_eq!(rt;
+                    given(rt.alloc(), input, room, texts)?,
+                    count,
+                    "{room} {texts}"
+                );
+            }
+        }
+    }
+    Ok(())
+}
+
+/// A sink without room gets no token, and none is shown to it.
+#[test]
+fn no_token_goes_where_there_is_no_room(rt: HostRuntime) -> Result<(), Fail> {
+    let mut held = held_t::new(rt.alloc(), b"a");
+    let mut shelf = shelf_t::new(rt.alloc(), b"a");
+    assert!(rt; !held.scan_to(&mut shelf));
+    assert_eq!(rt; shelf.tokens, 0);
+    assert!(rt; held.kept.peeked().is_none());
+    assert!(rt; !held.kept.is_over());
+    Ok(())
+}
+
+/// A token is shown before each one that is taken, and twice.
+#[test]
+fn peeked_token_is_the_next(rt: HostRuntime) -> Result<(), Fail> {
+    for input in INPUTS {
+        let mut held = held_t::new(rt.alloc(), input);
+        let mut right = yaml_parser_t::new(rt.alloc(), input, ANY);
+        let mut shelf = shelf_t::new(rt.alloc(), input);
+        let count = count_of(rt.alloc(), input)?;
+        'tokens: for _ in 0..count {
+            'peeks: for _ in 0..2 {
+                assert!(rt; !held.peek());
+                match (held.kept.peeked(), yaml_parser_peek(&mut right)) {
+                    (Some(shown), Ok(want)) => assert!(rt; shown == want),
+                    _ => return Err("no token".into()),
+                }
+            }
+            shelf.room = 1;
+            shelf.texts = 1000;
+            assert!(rt; !held.scan_to(&mut shelf));
+            assert!(rt; yaml_parser_scan(&mut right).is_ok());
+        }
+        assert!(rt; held.kept.is_over());
+        assert_eq!(rt; shelf.tokens, count);
+        assert_eq!(rt; shelf.wrong, 0);
+    }
+    Ok(())
+}
+
+/// After the end a sink gets nothing, and nothing is shown.
+#[test]
+fn nothing_comes_after_the_end(rt: HostRuntime) -> Result<(), Fail> {
+    let mut held = held_t::new(rt.alloc(), b"a");
+    let mut shelf = shelf_t::new(rt.alloc(), b"a");
+    'calls: for _ in 0..2 {
+        shelf.room = 10;
+        shelf.texts = 10;
+        assert!(rt; !held.scan_to(&mut shelf));
+        assert!(rt; held.kept.is_over());
+        assert_eq!(rt; shelf.tokens, 3);
+    }
+    assert!(rt; !held.peek());
+    assert!(rt; held.kept.peeked().is_none());
+    Ok(())
+}
+
+/// The tokens before a fault go to the sink, and then the fault is told once, and kept.
+#[test]
+fn fault_comes_after_its_tokens(rt: HostRuntime) -> Result<(), Fail> {
+    for input in [
+        b"a: b: c".as_slice(),
+        b"\xFE\xFF\0a\0:\0 \0b\0:\0 \0c".as_slice(),
+    ] {
+        for (room, calls) in [(1, 7), (3, 3), (100, 1)] {
+            let mut held = held_t::new(rt.alloc(), input);
+            let mut shelf = shelf_t::new(rt.alloc(), input);
+            'calls: for call in 1..10 {
+                shelf.room = room;
+                shelf.texts = 100;
+                let ends = held.scan_to(&mut shelf);
+                assert_eq!(rt; ends, call == calls, "{room} {call}");
+                assert_eq!(rt; held.kept.is_over(), call >= calls);
+                assert_eq!(rt; held.kept.fault().is_some(), call >= calls);
+            }
+            assert_eq!(rt; shelf.tokens, 6, "{room}");
+            assert_eq!(rt; shelf.wrong, 0);
+        }
+    }
+    Ok(())
+}
+
+/// A fault is told to a peek once, and no token is shown then.
+#[test]
+fn peek_finds_the_fault(rt: HostRuntime) -> Result<(), Fail> {
+    let input = b"\xFF";
+    let mut held = held_t::new(rt.alloc(), input);
+    assert!(rt; held.kept.fault().is_none());
+    assert!(rt; held.peek());
+    assert!(rt; held.kept.is_over());
+    assert!(rt; held.kept.fault().is_some());
+    assert!(rt; held.kept.peeked().is_none());
+    assert!(rt; !held.peek());
+    assert!(rt; held.kept.peeked().is_none());
+    Ok(())
+}
+
+/// A text of UTF-16 that was decoded is kept if a call finds a token without room, or nothing to give.
+#[test]
+fn decoded_text_is_kept(rt: HostRuntime) -> Result<(), Fail> {
+    let input = b"\xFF\xFEl\0o\0n\0g\0:\0 \0v\0";
+    assert_eq!(rt; given(rt.alloc(), input, 100, 1)?, 8);
+    assert_eq!(rt; given(rt.alloc(), input, 1, 0)?, 8);
+    Ok(())
+}

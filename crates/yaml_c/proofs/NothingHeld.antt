@@ -1,0 +1,66 @@
+-- A value of the type of what is held. A handle that holds nothing knows of some such value, of which nothing is said.
+use Rattle.std.proofs.Common.{[], None, false, refl, lit<, lit≤}
+use denote.RawPtr.{null_ptr}
+use Rattle.std.specs.VecDeque.Ownership.{misplacement}
+use Rattle.yaml_text.specs.Fault.{zero_mark}
+use Rattle.yaml_text.specs.declared.types.yaml_encoding_t.TheVariants.{YAML_ANY_ENCODING}
+use Rattle.yaml_text.specs.declared.token.unnamed_yaml_token_t_data.TheVariants.{NO_TOKEN}
+use Rattle.yaml_scan.specs.declared.kept.yaml_kept_parser_t.{yaml_kept_parser_t}
+use Rattle.yaml_c.specs.Handle.{held, heap}
+use Rattle.yaml_c.specs.declared.held.ahead_t.TheVariants.{NONE}
+
+no_parser : yaml_kept_parser_t
+unfolding misplacement
+no_parser = record {
+  setting = YAML_ANY_ENCODING;
+  text = None;
+  state = record {
+    alloc = heap;
+    fault = None;
+    near = 0;
+    limit = 0;
+    slots = record {
+      outer = record { ptr = null_ptr; len = 0; cap = 0; alloc = heap; items = []; ok = (refl, lit≤ tt); small = lit< tt };
+      not_simple_keys = 0;
+      top = None;
+      awaited = 0;
+    };
+    allowed = false;
+    layout = record {
+      levels = record { ptr = null_ptr; len = 0; cap = 0; alloc = heap; items = []; ok = (refl, lit≤ tt); small = lit< tt };
+      queue = record {
+        groups = record {
+          ptr = null_ptr;
+          len = 0;
+          cap = 0;
+          head = 0;
+          wrapped = 0;
+          alloc = heap;
+          items = [];
+          ok = (refl, lit≤ tt);
+          small = (lit< tt, lit≤ tt);
+          ring_fits = refl;
+        };
+        done = 0;
+        early = 0;
+        front = zero_mark;
+      };
+    };
+    reach = zero_mark;
+    front = zero_mark;
+    there = zero_mark;
+    taken = 0;
+    made = 0;
+  };
+  session = record { peeked = false; over = false; failed = false };
+  lead = record { token_data = NO_TOKEN; start_mark = zero_mark; end_mark = zero_mark };
+}
+
+pub nothing_held : held
+nothing_held = record {
+  parser = no_parser;
+  ahead = NONE;
+  encoding = 0;
+  skipped = None;
+  spare = record { ptr = null_ptr; len = 0; cap = 0; alloc = heap; items = []; ok = (refl, lit≤ tt); small = lit< tt };
+}

@@ -1,0 +1,15 @@
+use Rattle.std.proofs.Common.{◌∙◌, ap}
+use Rattle.yaml_lexeme.specs.Place.{Place, after_run}
+use Rattle.yaml_lexeme.specs.inside.Runs.{class_test}
+use Rattle.yaml_lexeme.proofs.Places.CursorMoves.{run_bytes}
+use Rattle.yaml_lexeme.proofs.place.cursor_t.rare_run.Goals as goal
+
+pub overflow_sub-start : goal.overflow_sub-start
+overflow_sub-start c =
+    let e = c.past_run.ensures ∙ ap (λ (p : Place). after_run (class_test c.args.class) p) c.again.ensures in
+    (run_bytes (class_test c.args.class) c.args.self.now c.past_run.result _ _ e c.left-start.ensures c.left-left.ensures).0
+
+pub returns-clause-value : goal.returns-clause-value
+returns-clause-value c =
+    let e = c.past_run.ensures ∙ ap (λ (p : Place). after_run (class_test c.args.class) p) c.again.ensures in
+    c.front.ensures ∙ (run_bytes (class_test c.args.class) c.args.self.now c.past_run.result _ _ e c.left-start.ensures c.left-left.ensures).1
