@@ -288,8 +288,18 @@ impl<'a> cursor_t<'a> {
         } else if b < 0x80 && b != b'\r' {
             self.pass();
         } else {
-            *self = self.again().past_far();
+            self.advance_far();
         }
+    }
+
+    /// Takes a character that is not ASCII or is a carriage return. The room of what a function makes is cleared where
+    /// it begins, so this is a function of its own, which is rarely come to.
+    #[inline(always)]
+    fn advance_far(&mut self)
+        requires { 0 < length self.old.rest }
+        ensures { self.new ≡ skip 1 self.old }
+    {
+        *self = self.again().past_far();
     }
 
     /// The place after a character that is not ASCII or is a carriage return.
@@ -416,13 +426,22 @@ impl<'a> cursor_t<'a> {
         here
     }
 
+    /// Takes the run of the class that is here, where that is rare: a function that is called takes it. This one is
+    /// apart from those that ask for it, since the room of what a function makes is cleared where it begins.
+    #[inline(always)]
+    fn skip_rarely(&mut self, class: class_t)
+        ensures { self.new ≡ after_run (class_test class) self.old }
+    {
+        *self = self.again().past_run(class);
+    }
+
     /// Takes the run of the class that is here, if there is one.
     #[inline(always)]
     fn skip_rest(&mut self, class: class_t)
         ensures { self.new ≡ after_run (class_test class) self.old }
     {
         if is_in(class, self.peek(0)) {
-            *self = self.again().past_run(class);
+            self.skip_rarely(class);
         }
     }
 
@@ -448,7 +467,7 @@ impl<'a> cursor_t<'a> {
         ensures end { self.new ≡ after_run (class_test class) self.old }
     {
         let start = self.left();
-        *self = self.again().past_run(class);
+        self.skip_rarely(class);
         let left = self.left();
         front(start, start.len() - left.len())
     }

@@ -216,6 +216,24 @@ fn take_rest(
     taken
 }
 
+/// Takes what is left of a quoted scalar after its first line, of which `kept` is kept, as `take_rest` does. It gets a
+/// copy of the cursor, so that the cursor itself stays in registers.
+#[inline(always)]
+fn take_more(
+    room: Vec<u8>,
+    cursor: &mut cursor_t,
+    single: bool,
+    kept: &[u8],
+) -> Result<Vec<u8>, yaml_refusal_t>
+    ensures { (p : Place) → LeadsOn single p kept.now cursor.old
+        → Gives (λ v. v.items) result cursor.new (spec.quoted single p) }
+{
+    let mut here = cursor.again();
+    let taken = take_rest(room, &mut here, single, kept);
+    *cursor = here;
+    taken
+}
+
 /// Takes a quoted scalar, from its opening quote on. Its value is put into `room` if it fits.
 #[inline(always)]
 pub(crate) fn take_quoted(
@@ -236,9 +254,5 @@ pub(crate) fn take_quoted(
         cursor.pass();
         return Ok(value);
     }
-    // a copy, so that the cursor itself stays in registers
-    let mut here = cursor.again();
-    let taken = take_rest(room, &mut here, single, &left[..len]);
-    *cursor = here;
-    taken
+    take_more(room, cursor, single, &left[..len])
 }

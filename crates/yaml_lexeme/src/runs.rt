@@ -204,6 +204,14 @@ fn part(text: &[u8], from: usize, to: usize) -> &[u8]
     &text[from..to]
 }
 
+/// The lanes that are no ASCII.
+#[inline(always)]
+fn wide(v: u8x16) -> u64
+    ensures { result ≡ mask_l (map spec.is_wide v) }
+{
+    v.simd_ge(u8x16::splat(0x80)).to_bitmask()
+}
+
 /// How many of the first `n` lanes begin a character.
 #[inline(always)]
 fn starts_before(v: u8x16, n: usize) -> usize
@@ -232,6 +240,9 @@ fn quiet_bytes(class: class_t, text: &[u8]) -> (usize, usize, bool)
         let found = stops(class, v);
         if found != 0 {
             let k = found.trailing_zeros() as usize;
+            if wide(v) == 0 {
+                return (i + k, n + k, false);
+            }
             return (i + k, n + starts_before(v, k), true);
         }
         n += starts(v).count_ones() as usize;

@@ -204,6 +204,15 @@ pub(crate) fn completed_by(
     }
 }
 
+/// Empties a slot. The room of what a function makes is cleared where it begins, so this is a function of its own, which
+/// is rarely come to.
+#[inline(always)]
+fn empty(slot: &mut Option<candidate_t>)
+    ensures { slot.new ≡ None }
+{
+    *slot = None;
+}
+
 /// Gives up a candidate that is stale at a mark.
 #[inline(always)]
 fn give_up(slot: &mut Option<candidate_t>, limit: u64, mark: yaml_mark_t)
@@ -211,7 +220,7 @@ fn give_up(slot: &mut Option<candidate_t>, limit: u64, mark: yaml_mark_t)
 {
     if let Some(held) = *slot {
         if !is_still_live(limit, mark, held) {
-            *slot = None;
+            empty(slot);
         }
     }
 }

@@ -302,6 +302,36 @@ pub(crate) fn has_room_for_both<const DIRECT: bool, S: yaml_token_sink_t>(
     DIRECT && sink.has_room((levels.len() + 4) as u128, texts)
 }
 
+/// Puts a group into the queue, which has room. It is put together anew, so that what goes straight to a sink is not
+/// put together in memory.
+#[inline(always)]
+fn queue(state: &mut state_t, group: group_t)
+{
+    let group_t {
+        ends,
+        opens,
+        key,
+        token,
+    } = group;
+    state.layout.queue.groups.push_back_reserved(group_t {
+        ends,
+        opens,
+        key,
+        token,
+    });
+}
+
+#[inline(always)]
+fn queue_alone(state: &mut state_t, token: yaml_token_t)
+{
+    state.layout.queue.groups.push_back_reserved(group_t {
+        ends: 0,
+        opens: block_t::NONE,
+        key: false,
+        token,
+    });
+}
+
 /// Hands on the group of a step: straight to the sink if it need not wait, and else into the queue, which has room.
 #[inline(always)]
 pub(crate) fn hand_on<const DIRECT: bool, S: yaml_token_sink_t>(
@@ -319,7 +349,7 @@ pub(crate) fn hand_on<const DIRECT: bool, S: yaml_token_sink_t>(
         S.may_refuse result }
 {
     if !DIRECT || waits {
-        state.layout.queue.groups.push_back_reserved(group);
+        queue(state, group);
         return Ok(());
     }
     let count = count_of(&group);
@@ -352,7 +382,7 @@ pub(crate) fn hand_keyless<const DIRECT: bool, S: yaml_token_sink_t>(
         S.may_refuse result }
 {
     if !DIRECT || waits {
-        state.layout.queue.groups.push_back_reserved(group);
+        queue(state, group);
         return Ok(());
     }
     let count = count_of(&group);
@@ -384,12 +414,7 @@ pub(crate) fn hand_token<const DIRECT: bool, S: yaml_token_sink_t>(
         S.may_refuse result }
 {
     if !DIRECT || waits {
-        state.layout.queue.groups.push_back_reserved(group_t {
-            ends: 0,
-            opens: block_t::NONE,
-            key: false,
-            token,
-        });
+        queue_alone(state, token);
         return Ok(());
     }
     match give(sink, token) {

@@ -1,9 +1,10 @@
 -- Characters are counted by the bits of a mask.
-use Rattle.std.proofs.Common.{◌≡◌, ℕ, ◌+◌, ◌-◌, ◌*◌, ◌%◌, ◌^◌, ◌≤◌, Bool, cond, List, [], ◌∷◌, ◌++◌, map, length, take, drop, sym, ap, ◌∙◌, arith}
+use Rattle.std.proofs.Common.{◌≡◌, ℕ, ◌+◌, ◌-◌, ◌*◌, ◌%◌, ◌^◌, ◌≤◌, Bool, true, false, cond, zero, suc, List, [], ◌∷◌, ◌++◌, map, length, take, drop, refl, sym, ap, ◌∙◌, arith}
 use Rattle.std.proofs.Math.Nat.{pow-succ', add-mul-mod_self_left}
 use Rattle.std.proofs.Math.Seq.{take-add}
 use Rattle.std.proofs.lemmas.List.{take-append-drop, length-take, take-map, take-take}
-use Rattle.std.proofs.lemmas.List.Sums.{sum_by-append, count_by-le-length}
+use Rattle.std.proofs.lemmas.Bool.{true≢false}
+use Rattle.std.proofs.lemmas.List.Sums.{sum_by-append, sum_by-cons, count_by-le-length}
 use Rattle.std.proofs.lemmas.Nat.{and_mask}
 use Rattle.std.proofs.lemmas.Simd.{mask_l-mod, ones-mask_l}
 use Rattle.std.proofs.lemmas.List.{length-map}
@@ -54,3 +55,18 @@ count_part p d i e n c h l s =
     let t : count_by p (take (i + (e - i)) d) ≡ count_by p (take i d) + count_by p (take (e - i) (drop i d)) = ap (count_by p) (take-add i (e - i) d) ∙ sum_by-append (λ x. cond (p x) 1 0) (take i d) (take (e - i) (drop i d)) in
     let u : count_by p (take (i + (e - i)) d) ≡ count_by p (take e d) = ap (λ j. count_by p (take j d)) k in
     omega (arith, t, u, h, s)
+
+-- A lane that is ASCII begins a character, and so do the first n if all are.
+begin_here : (q b : Bool) (m c n : ℕ) → (q ≡ false → b ≡ true) → cond q 1 0 + 2 * m ≡ 0 → (m ≡ 0 → c ≡ n)
+    → cond b 1 0 + c ≡ suc n
+begin_here true b m c n one e rest = let no : ⊥ = omega (arith, e) in absurd no
+begin_here false true m c n one e rest = let z = rest (omega (arith, e)) in omega (arith, z)
+begin_here false false m c n one e rest = absurd (true≢false (sym (one refl)))
+
+module _ (q p : ℕ → Bool) (one : (x : ℕ) → q x ≡ false → p x ≡ true) where
+  pub all_counted : (n : ℕ) (v : List ℕ) → n ≤ length v → mask_l (map q v) ≡ 0 → count_by p (take n v) ≡ n
+  all_counted zero v few none = refl
+  all_counted (suc n) [] few none = let no : ⊥ = omega (arith, few) in absurd no
+  all_counted (suc n) (x ∷ xs) few none =
+      sum_by-cons (λ y. cond (p y) 1 0) x (take n xs)
+      ∙ begin_here (q x) (p x) (mask_l (map q xs)) (count_by p (take n xs)) n (one x) none (all_counted n xs (omega (arith, few)))

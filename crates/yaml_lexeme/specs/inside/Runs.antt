@@ -62,6 +62,10 @@ is_quiet class b = not (is_stop class b)
 abbrev pub begins : ℕ → Bool
 begins b = not (b / 64 == 2)
 
+-- a byte that is no ASCII
+abbrev pub is_wide : ℕ → Bool
+is_wide b = not (b / 128 == 0)
+
 -- A break may begin with b, but x and y after it show that none does.
 abbrev pub is_false_lead : ℕ → ℕ → ℕ → Bool
 is_false_lead b x y =
