@@ -49,5 +49,5 @@ returns c =
     let goes = rw c.advance.ensures at (c.line_piece-len.ensures.goes []) in
     let read = goes (spelled (many one start)) (begins utf8 one start) in
     let same : take (length value) left ≡ value = ap (λ (x : List ℕ). take (length value) x) c.left-left.ensures ∙ sym c.line_piece-len.ensures.front in
-    let leads : LeadsOn single p (take (length value) left) c.again-here.result = rw (same, c.again-here.ensures) read in
-    c.take_rest-taken.ensures p leads
+    let leads : LeadsOn single p (take (length value) left) c.line_piece-len.new.cursor = rw same read in
+    c.take_more.ensures p leads

@@ -23,8 +23,8 @@ pass-requires c =
     let some : 0 < length c.self.inside.bytes.now = grind (arith, common_steps) in
     passes_here c.self.inside.mark c.self.inside.bytes.now c.args.self.now c.self.invariant.0 c.self.view_is some c.if-b-lt128.true c.if-b-eq10.false c.if-b-ne13.true
 
-pub past_far-requires : goal.past_far-requires
-past_far-requires c =
+pub advance_far-requires : goal.advance_far-requires
+advance_far-requires c =
     let some : 0 < length c.self.inside.bytes.now = grind (arith, common_steps) in
     let h = head c.self.inside.bytes.now c.self.invariant.0 some in
-    omega (arith, h.some, ap (λ (p : Place). length p.rest) c.self.view_is, ap (λ (p : Place). length p.rest) c.again.ensures)
+    omega (arith, h.some, ap (λ (p : Place). length p.rest) c.self.view_is)
