@@ -17,6 +17,7 @@ use crate::fault::{stop_by_sink, stop_t, stopped};
 use crate::groups::{block_t, group_t, token_at};
 use crate::state::state_t;
 use std::alloc::{AllocError, Global};
+use std::collections::VecDeque;
 use yaml_text::{unnamed_yaml_token_t_data, yaml_mark_t, yaml_token_t};
 
 /// Takes the tokens of an input, one after the other.
@@ -302,10 +303,13 @@ pub(crate) fn has_room_for_both<const DIRECT: bool, S: yaml_token_sink_t>(
     DIRECT && sink.has_room((levels.len() + 4) as u128, texts)
 }
 
-/// Puts a group into the queue, which has room. It is put together anew, so that what goes straight to a sink is not
-/// put together in memory.
+/// Puts a group into the queue, which has room. It is put together here, so that one that goes straight to a sink is
+/// not put together in memory.
 #[inline(always)]
-fn queue(state: &mut state_t, group: group_t)
+fn queue(groups: &mut VecDeque<group_t>, group: group_t)
+    requires { length groups.old.items < deque_capacity groups.old }
+    ensures items { groups.new.items ≡ groups.old.items ++ group ∷ [] }
+    ensures capacity { deque_capacity groups.new ≡ deque_capacity groups.old }
 {
     let group_t {
         ends,
@@ -313,7 +317,7 @@ fn queue(state: &mut state_t, group: group_t)
         key,
         token,
     } = group;
-    state.layout.queue.groups.push_back_reserved(group_t {
+    groups.push_back_reserved(group_t {
         ends,
         opens,
         key,
@@ -321,10 +325,14 @@ fn queue(state: &mut state_t, group: group_t)
     });
 }
 
+/// Puts a token that is a group alone into the queue, which has room.
 #[inline(always)]
-fn queue_alone(state: &mut state_t, token: yaml_token_t)
+fn queue_alone(groups: &mut VecDeque<group_t>, token: yaml_token_t)
+    requires { length groups.old.items < deque_capacity groups.old }
+    ensures items { groups.new.items ≡ groups.old.items ++ lone token ∷ [] }
+    ensures capacity { deque_capacity groups.new ≡ deque_capacity groups.old }
 {
-    state.layout.queue.groups.push_back_reserved(group_t {
+    groups.push_back_reserved(group_t {
         ends: 0,
         opens: block_t::NONE,
         key: false,
@@ -349,7 +357,7 @@ pub(crate) fn hand_on<const DIRECT: bool, S: yaml_token_sink_t>(
         S.may_refuse result }
 {
     if !DIRECT || waits {
-        queue(state, group);
+        queue(&mut state.layout.queue.groups, group);
         return Ok(());
     }
     let count = count_of(&group);
@@ -382,7 +390,7 @@ pub(crate) fn hand_keyless<const DIRECT: bool, S: yaml_token_sink_t>(
         S.may_refuse result }
 {
     if !DIRECT || waits {
-        queue(state, group);
+        queue(&mut state.layout.queue.groups, group);
         return Ok(());
     }
     let count = count_of(&group);
@@ -414,7 +422,7 @@ pub(crate) fn hand_token<const DIRECT: bool, S: yaml_token_sink_t>(
         S.may_refuse result }
 {
     if !DIRECT || waits {
-        queue_alone(state, token);
+        queue_alone(&mut state.layout.queue.groups, token);
         return Ok(());
     }
     match give(sink, token) {
