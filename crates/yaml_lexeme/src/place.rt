@@ -6,7 +6,7 @@ ghost use Rattle.std.specs.Str.{chars};
 ghost use Rattle.yaml_text.specs.Chars.{utf8};
 ghost use Rattle.yaml_text.specs.TextBytes.{IsText};
 ghost use Rattle.yaml_text.specs.Classes.{is_break};
-ghost use Rattle.yaml_text.specs.Utf8.{value_of};
+ghost use Rattle.yaml_text.specs.Utf8.{value_of, width_of};
 ghost use Rattle.yaml_lexeme.specs.Place.{peek, first, place_at, skip, after_run, run};
 ghost use Rattle.yaml_lexeme.specs.inside.Moves.{mark_after, is_feed, feed_width, FedLine};
 ghost use Rattle.yaml_lexeme.specs.Counted.{IsMarkOf};
@@ -111,6 +111,20 @@ fn code_of(bytes: &[u8], width: usize) -> u32
     }
 }
 
+/// How many bytes a character has that begins with a byte.
+#[inline(always)]
+fn width_from(b: u8) -> usize
+    ensures is { 0 < width_of b → result ≡ width_of b }
+    ensures most { result ≤ 4 }
+{
+    match b {
+        0..=0x7F => 1,
+        0x80..=0xDF => 2,
+        0xE0..=0xEF => 3,
+        _ => 4,
+    }
+}
+
 /// The first character.
 #[inline(never)]
 fn wide_char(bytes: &[u8]) -> char
@@ -118,7 +132,7 @@ fn wide_char(bytes: &[u8]) -> char
     requires some { 0 < length bytes.now }
     ensures { result ≡ slice_index (chars bytes.now) 0 }
 {
-    char::from_u32(code_of(bytes, WIDTH(bytes, 0))).unwrap()
+    char::from_u32(code_of(bytes, width_from(bytes[0]))).unwrap()
 }
 
 /// The first character, or 0 at the end.
