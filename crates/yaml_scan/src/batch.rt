@@ -127,6 +127,9 @@ fn drain<S: yaml_token_sink_t>(text: &yaml_text_t, state: &mut state_t, sink: &m
         (λ tokens. S.took sink.old tokens sink.new) result }
     ensures within { S.within sink.old → S.within sink.new }
 {
+    if !sink.has_room(3, 0) {
+        return false;
+    }
     let mut any = false;
     'groups: while is_ready(text, state, sink) {
         match give_head(text, state, sink) {

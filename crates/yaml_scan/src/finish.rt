@@ -28,7 +28,7 @@ use crate::met::step_t;
 use crate::state::state_t;
 use crate::stop::{stop_after, stop_in_lexeme};
 use crate::target::{
-    hand_keyless, hand_on, hand_token, has_room_for, has_room_for_both, no_sink_t, said_len,
+    hand_keyless, hand_on, hand_token, has_room_for_both, has_room_for_laid, no_sink_t, said_len,
     yaml_token_sink_t,
 };
 use yaml_lexeme::{yaml_lexeme_kind_t, yaml_lexeme_t, yaml_refusal_t};
@@ -50,27 +50,28 @@ pub(crate) struct laid_t {
 }
 
 /// Whether the group of a lexeme of a kind that was laid has to wait: the stream end always does, and any other if
-/// groups before it do, if a candidate may yet become a key, or if the sink has no room for it. Its texts have so many
-/// bytes.
+/// groups before it do, if a candidate may yet become a key, or if the sink has no room for it. It hands out so many
+/// block ends and opens that, and its texts have so many bytes.
 #[inline(always)]
 fn has_to_wait<S: yaml_token_sink_t>(
     state: &state_t,
     sink: &S,
     kind: yaml_lexeme_kind_t,
     ends: usize,
+    opens: block_t,
     texts: u128,
 ) -> bool
     ensures last { result ≡ false → is_stream_end kind ≡ false }
     ensures awaited { result ≡ false → state.now.slots.awaited ≡ 0 }
     ensures lone { result ≡ false → state.now.layout.queue.groups.items ≡ [] }
     ensures room { result ≡ false → S.within sink.now → (group : group_t) (after : S) → group.ends ≡ ends
-        → said_len (token_of group.token).token_data ≤ texts → S.took sink.now (group_tokens group) after
-        → S.within after }
+        → group.opens ≡ opens → group.key ≡ false → said_len (token_of group.token).token_data ≤ texts
+        → S.took sink.now (group_tokens group) after → S.within after }
 {
     is_last(kind)
         || state.slots.awaited > 0
         || !state.layout.queue.groups.is_empty()
-        || !has_room_for(sink, ends, texts)
+        || !has_room_for_laid(sink, ends, opens, texts)
 }
 
 /// Lays the lexeme of a step, which was read to a mark, and whose texts have so many bytes. Returns how many block ends
@@ -96,7 +97,7 @@ fn lay_alone<S: yaml_token_sink_t>(
         → (after : S) → S.took sink.now (group_tokens (group_with result.0 result.1 false t)) after → S.within after }
 {
     let (ends, opens) = lay_lexeme(state, step, reach, passed_break);
-    let waits = has_to_wait(state, sink, step.kind, ends, texts);
+    let waits = has_to_wait(state, sink, step.kind, ends, opens, texts);
     (ends, opens, waits)
 }
 

@@ -175,6 +175,21 @@ impl yaml_kept_parser_t {
     }
 }
 
+/// The text that was kept, which has bytes of its own. They go with it, and nothing is left here. This is a function of
+/// its own, as others here are for what is rare, since the room of what a function makes is cleared where it begins.
+#[inline(always)]
+fn lend_own<'a>(kept: &mut Option<yaml_kept_text_t>, input: &'a [u8]) -> yaml_text_t<'a>
+    requires { (x : Text) × (k : KeptText) × (kept.old ≡ Some k) × IsKeptOf x input.now k }
+    ensures text { (x : Text) (k : KeptText) → kept.old ≡ Some k → IsKeptOf x input.now k → result ≡ x }
+    ensures lent { (x : Text) (k : KeptText) → kept.old ≡ Some k → IsKeptOf x input.now k
+        → IsLent result input.now kept.new }
+{
+    match kept.take() {
+        Some(text) => text.text(input),
+        None => unreachable!(),
+    }
+}
+
 /// The text that was kept, over the same input. If it has bytes of its own they go with it, and nothing is left here.
 #[inline(always)]
 fn lend<'a>(kept: &mut Option<yaml_kept_text_t>, input: &'a [u8]) -> yaml_text_t<'a>
@@ -188,10 +203,21 @@ fn lend<'a>(kept: &mut Option<yaml_kept_text_t>, input: &'a [u8]) -> yaml_text_t
             return text;
         }
     }
-    match kept.take() {
-        Some(text) => text.text(input),
-        None => unreachable!(),
-    }
+    lend_own(kept, input)
+}
+
+/// Keeps what is needed of a text for the next call.
+#[inline(always)]
+fn keep_text(
+    kept: &mut Option<yaml_kept_text_t>,
+    text: yaml_text_t,
+    input: &[u8],
+    setting: yaml_encoding_t,
+)
+    ensures { (k : KeptText) × (kept.new ≡ Some k)
+        × (text.entry ≡ front setting input.now → IsKeptOf text.entry input.now k) }
+{
+    *kept = Some(yaml_kept_text_t::new(text, input, setting));
 }
 
 /// Takes a text back that was lent.
@@ -206,8 +232,21 @@ fn give_back(
         × (text.entry ≡ front setting input.now → IsKeptOf text.entry input.now k) }
 {
     if kept.is_none() {
-        *kept = Some(yaml_kept_text_t::new(text, input, setting));
+        keep_text(kept, text, input, setting);
     }
+}
+
+/// Decodes the input of a kept parser that made no step, and makes the first. Nothing is kept of the text meanwhile.
+#[inline(always)]
+fn begin_kept<'a>(kept: &mut yaml_kept_parser_t, input: &'a [u8]) -> Result<yaml_text_t<'a>, stop_t>
+    requires { (p : Parser) × (p.input ≡ input.now) × (p.session.over ≡ false) × IsKept p kept.old
+        × (kept.old.state.made ≡ 0) }
+    ensures { (p : Parser) → p.input ≡ input.now → p.session.over ≡ false → (k : IsKept p kept.old)
+        → StartsKept k.parser kept.old kept.new result }
+{
+    let text = begin(&mut kept.state, input, kept.setting)?;
+    kept.text = None;
+    Ok(text)
 }
 
 /// Lends the text of a kept parser, for the same input. Before the first step it decodes the input, and makes that
@@ -221,9 +260,7 @@ fn start_kept<'a>(kept: &mut yaml_kept_parser_t, input: &'a [u8]) -> Result<yaml
     if kept.state.made > 0 {
         return Ok(lend(&mut kept.text, input));
     }
-    let text = begin(&mut kept.state, input, kept.setting)?;
-    kept.text = None;
-    Ok(text)
+    begin_kept(kept, input)
 }
 
 /// Gives the next tokens of a kept parser, whose session is not over, to a sink that has room for one.

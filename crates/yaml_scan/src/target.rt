@@ -287,6 +287,35 @@ pub(crate) fn has_room_for<S: yaml_token_sink_t>(sink: &S, ends: usize, texts: u
     sink.has_room(ends as u128 + 3, texts)
 }
 
+/// How many tokens a group without a key has at most: it hands out so many block ends, and opens that. Most are a token
+/// alone.
+#[inline(always)]
+fn most_without_key(ends: usize, opens: block_t) -> u128
+    ensures { ends + starts_of opens + 1 ≤ result }
+{
+    if ends == 0 && matches!(opens, block_t::NONE) {
+        1
+    } else {
+        ends as u128 + 3
+    }
+}
+
+/// Whether a sink has room for the group of a lexeme that was laid, which hands out no key: so many block ends, and
+/// what it opens, and a token that has so many bytes of texts.
+#[inline(always)]
+pub(crate) fn has_room_for_laid<S: yaml_token_sink_t>(
+    sink: &S,
+    ends: usize,
+    opens: block_t,
+    texts: u128,
+) -> bool
+    ensures { result ≡ true → S.within sink.now → (group : group_t) (after : S) → group.ends ≡ ends
+        → group.opens ≡ opens → group.key ≡ false → said_len (token_of group.token).token_data ≤ texts
+        → S.took sink.now (group_tokens group) after → S.within after }
+{
+    sink.has_room(most_without_key(ends, opens), texts)
+}
+
 /// Whether a sink that takes groups straight has room for that of a lexeme, which may close all levels and whose texts
 /// have so many bytes, and for a token without texts after it.
 #[inline(always)]

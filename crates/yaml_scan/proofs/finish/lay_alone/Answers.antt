@@ -30,4 +30,4 @@ returns-clause-laid g c = λ X d b e t p T.
     }
 
 pub returns-clause-room : goal.returns-clause-room
-returns-clause-room g c = λ e within t few after w. c.has_to_wait-waits.ensures.room e within (group_with c.lay_lexeme-ends.result.0 c.lay_lexeme-ends.result.1 false t) after refl few w
+returns-clause-room g c = λ e within t few after w. c.has_to_wait-waits.ensures.room e within (group_with c.lay_lexeme-ends.result.0 c.lay_lexeme-ends.result.1 false t) after refl refl refl few w
