@@ -1,5 +1,5 @@
 //! A parser whose input was let go, and taken up again.
-ghost use Rattle.std.specs.Prelude.{◌≡◌, Some, true, false, [], List, option_map};
+ghost use Rattle.std.specs.Prelude.{◌≡◌, Some, true, false, [], List, option_map, IfSome};
 ghost use Rattle.yaml_text.specs.Decode.{front};
 ghost use Rattle.yaml_text.specs.Text.{Text};
 ghost use Rattle.yaml_text.specs.Kept.{IsKeptOf, KeptText};
@@ -8,6 +8,7 @@ ghost use Rattle.yaml_scan.specs.Sessions.{session_reach};
 ghost use Rattle.yaml_scan.specs.Parser.{Parser};
 ghost use Rattle.yaml_scan.specs.inside.Kept.{IsKept};
 ghost use Rattle.yaml_scan.specs.inside.KeptEnds.{GivesKept, IsLent, ShowsKept, StartsKept, ended_by};
+ghost use Rattle.yaml_scan.specs.inside.KeptParts.{HasBegun};
 ghost use Rattle.yaml_scan.specs.inside.Stop.{fault_at};
 ghost use Rattle.yaml_text.specs.Fault.{Fault, fault_of};
 ghost use Rattle.yaml_text.specs.Token.{Token, token_of};
@@ -263,9 +264,27 @@ fn start_kept<'a>(kept: &mut yaml_kept_parser_t, input: &'a [u8]) -> Result<yaml
     begin_kept(kept, input)
 }
 
-/// Gives the next tokens of a kept parser, whose session is not over, to a sink that has room for one.
+/// The text of a kept parser that has made the first step, for the same input, if it borrows a part of that.
 #[inline(always)]
-fn scan_kept<S: yaml_token_sink_t>(
+fn lend_again<'a>(kept: &yaml_kept_parser_t, input: &'a [u8]) -> Option<yaml_text_t<'a>>
+    requires { (p : Parser) × (p.input ≡ input.now) × (p.session.over ≡ false) × IsKept p kept.now }
+    ensures { (p : Parser) → p.input ≡ input.now → p.session.over ≡ false → (k : IsKept p kept.now)
+        → IfSome result (λ text. HasBegun k.parser text kept.now.state × IsKeptOf text input.now k.left) }
+{
+    if kept.state.made == 0 {
+        return None;
+    }
+    match &kept.text {
+        Some(text) => text.borrowed(input),
+        None => None,
+    }
+}
+
+/// Gives the next tokens of a kept parser, as `scan_kept` does, in the first call, or where the text has bytes of its
+/// own. This is called, and apart, so that in all other calls the text needs no care after it.
+#[cold]
+#[inline(never)]
+fn scan_lent<S: yaml_token_sink_t>(
     kept: &mut yaml_kept_parser_t,
     input: &[u8],
     sink: &mut S,
@@ -286,6 +305,31 @@ fn scan_kept<S: yaml_token_sink_t>(
     );
     give_back(&mut kept.text, text, input, kept.setting);
     given
+}
+
+/// Gives the next tokens of a kept parser, whose session is not over, to a sink that has room for one.
+#[inline(always)]
+fn scan_kept<S: yaml_token_sink_t>(
+    kept: &mut yaml_kept_parser_t,
+    input: &[u8],
+    sink: &mut S,
+) -> Result<(), stop_t>
+    requires at { (p : Parser) × (p.input ≡ input.now) × (p.session.over ≡ false) × IsKept p kept.old }
+    requires takes { S.may_refuse → ⊥ }
+    ensures gives { (p : Parser) → p.input ≡ input.now → p.session.over ≡ false → (k : IsKept p kept.old)
+        → GivesKept p k.parser kept.new (λ tokens. S.took sink.old tokens sink.new) (S.lacks sink.new) result }
+    ensures within { S.within sink.old → S.within sink.new }
+{
+    if let Some(text) = lend_again(kept, input) {
+        return give_while_room(
+            &text,
+            &mut kept.state,
+            &mut kept.session,
+            &mut kept.lead,
+            sink,
+        );
+    }
+    scan_lent(kept, input, sink)
 }
 
 /// Shows the next token of a kept parser, whose session is not over.
