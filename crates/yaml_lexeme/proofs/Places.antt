@@ -8,3 +8,5 @@ pub mod CursorMoves
 pub mod FirstCharacters
 -- A line that ends with a line feed is taken without a count of its characters.
 pub mod FedLines
+-- A cursor that moves on over a short piece moves as a place does.
+pub mod ShortMoves

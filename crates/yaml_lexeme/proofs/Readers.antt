@@ -10,6 +10,8 @@ pub mod QuotedBody
 pub mod QuotedRuns
 -- What a line of a quoted body holds unchanged is kept in one piece.
 pub mod QuotedLines
+-- An escape and the short piece after it are parts of a quoted body.
+pub mod ShortTurns
 -- A character that is not ASCII is set byte by byte.
 pub mod WideBytes
 -- The bytes of a run, and those of its trimmed piece, are the first of what is left.

@@ -3,6 +3,7 @@
 pub mod BlockAhead
 pub mod Moves
 pub mod Runs
+pub mod ShortRuns
 pub mod CommonEscapes
 pub mod Gives
 pub mod Words

@@ -1,5 +1,6 @@
 //! The value of a run of blanks and breaks.
-ghost use Rattle.std.specs.Prelude.{◌≡◌, ◌≤◌, ◌++◌, [], IfOk, MatchResult, OnOk, encode_utf8, length, take};
+ghost use Rattle.std.specs.Prelude.{◌≡◌, ◌<◌, ◌≤◌, ◌++◌, ◌∷◌, [], IfOk, MatchResult, OnOk, encode_utf8, length};
+ghost use Rattle.std.specs.Prelude.{take, drop};
 ghost use Rattle.yaml_text.specs.Chars.{utf8};
 ghost use Rattle.yaml_lexeme.specs.Classes as sets;
 ghost use Rattle.yaml_lexeme.specs.Place as place;
@@ -9,10 +10,8 @@ ghost use Rattle.yaml_lexeme.specs.declared.problem.yaml_refusal_t.TheVariants.{
 use crate::place::cursor_t;
 use crate::problem::yaml_refusal_t;
 use crate::runs::class_t;
+use crate::short::STAGE;
 use std::alloc::AllocError;
-
-/// So many bytes are copied as one.
-const STAGE: usize = 16;
 
 /// Appends the first `n` bytes to `out`. If they are few, a stage of bytes is copied as one, and what is too much of it
 /// is cut off.
@@ -27,6 +26,30 @@ pub(crate) fn push_front(out: &mut Vec<u8>, bytes: &[u8], n: usize) -> Result<()
     let old = out.len();
     out.extend_from_slice(&bytes[..STAGE])?;
     out.truncate(old + n);
+    Ok(())
+}
+
+/// Appends a byte and the `n` bytes after the first of others to `out`. If there are some, a stage of bytes is copied
+/// as one, from the first on; that one is set to the byte, and what is too much is cut off.
+#[inline(always)]
+pub(crate) fn push_behind(
+    out: &mut Vec<u8>,
+    byte: u8,
+    bytes: &[u8],
+    n: usize,
+) -> Result<(), AllocError>
+    requires stage { 16 ≤ length bytes.now }
+    requires few { n < 16 }
+    ensures { OnOk result (out.new.items ≡ out.old.items ++ (byte ∷ take n (drop 1 bytes.now))) }
+{
+    if n == 0 {
+        out.push(byte)?;
+        return Ok(());
+    }
+    let old = out.len();
+    out.extend_from_slice(&bytes[..STAGE])?;
+    out[old] = byte;
+    out.truncate(old + 1 + n);
     Ok(())
 }
 
@@ -114,6 +137,57 @@ pub(crate) fn push_char(out: &mut Vec<u8>, c: char) -> Result<(), AllocError>
         return Ok(());
     }
     push_wide(out, c)
+}
+
+/// Appends a character and the first `n` bytes to `out`, in any case.
+#[cold]
+#[inline(never)]
+fn push_both(out: &mut Vec<u8>, c: char, bytes: &[u8], n: usize) -> Result<(), AllocError>
+    requires { n ≤ length bytes.now }
+    ensures { OnOk result (out.new.items ≡ out.old.items ++ (encode_utf8 c ++ take n bytes.now)) }
+{
+    push_char(out, c)?;
+    if n == 0 {
+        return Ok(());
+    }
+    push_front(out, bytes, n)
+}
+
+/// Appends a character of two bytes and the `n` bytes after the first two of others to `out`. A stage of bytes is
+/// copied as one, and what is too much is cut off.
+#[inline(always)]
+fn push_two_behind(out: &mut Vec<u8>, c: char, bytes: &[u8], n: usize) -> Result<(), AllocError>
+    requires least { 0x80 ≤ c }
+    requires most { c < 0x800 }
+    requires stage { 16 ≤ length bytes.now }
+    requires few { n ≤ 14 }
+    ensures { OnOk result (out.new.items ≡ out.old.items ++ (encode_utf8 c ++ take n (drop 2 bytes.now))) }
+{
+    let code = c as u32;
+    let old = out.len();
+    out.extend_from_slice(&bytes[..STAGE])?;
+    out[old] = (0xC0 + code / 64) as u8;
+    out[old + 1] = (0x80 + code % 64) as u8;
+    out.truncate(old + 2 + n);
+    Ok(())
+}
+
+/// Appends a character and the `n` bytes after the first two of others to `out`.
+#[inline(always)]
+pub(crate) fn push_char_behind(
+    out: &mut Vec<u8>,
+    c: char,
+    bytes: &[u8],
+    n: usize,
+) -> Result<(), AllocError>
+    requires stage { 18 ≤ length bytes.now }
+    requires few { n < 16 }
+    ensures { OnOk result (out.new.items ≡ out.old.items ++ (encode_utf8 c ++ take n (drop 2 bytes.now))) }
+{
+    if n > 0 && n <= STAGE - 2 && c >= '\u{80}' && c < '\u{800}' {
+        return push_two_behind(out, c, bytes, n);
+    }
+    push_both(out, c, &bytes[2..], n)
 }
 
 /// A break as it is written in a value.

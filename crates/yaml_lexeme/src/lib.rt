@@ -19,6 +19,7 @@ mod plain;
 mod problem;
 mod quoted;
 mod runs;
+mod short;
 mod stream_end;
 mod tag;
 mod uri;

@@ -13,6 +13,7 @@ ghost use Rattle.yaml_lexeme.specs.Counted.{IsMarkOf};
 ghost use Rattle.yaml_lexeme.specs.Place.{run_len, break_len};
 ghost use Rattle.yaml_lexeme.specs.declared.runs.class_t.TheVariants.{BLANK, SPACE};
 ghost use Rattle.yaml_lexeme.specs.inside.Runs.{class_test, is_line, Stands};
+ghost use Rattle.yaml_lexeme.specs.inside.ShortRuns.{Short, ShortRun};
 
 use crate::classes::is_break;
 use crate::runs::{class_t, is_in, line_len, quiet_len, spaces_len, trimmed};
@@ -430,6 +431,20 @@ impl<'a> cursor_t<'a> {
         Some(n)
     }
 
+    /// Takes a short piece of `n` bytes.
+    #[inline(always)]
+    pub fn pass_short(&mut self, n: usize)
+        requires { Short (utf8 self.old.rest) n }
+        ensures { ShortRun self.old self.new n }
+    {
+        self.mark = yaml_mark_t {
+            index: self.mark.index + n as u64,
+            line: self.mark.line,
+            column: self.mark.column + n as u64,
+        };
+        self.bytes = rest(self.bytes, n);
+    }
+
     /// The place after the run of the class that is here.
     #[inline(never)]
     fn past_run(&self, class: class_t) -> cursor_t<'a>
@@ -443,7 +458,7 @@ impl<'a> cursor_t<'a> {
     /// Takes the run of the class that is here, where that is rare: a function that is called takes it. This one is
     /// apart from those that ask for it, since the room of what a function makes is cleared where it begins.
     #[inline(always)]
-    fn skip_rarely(&mut self, class: class_t)
+    fn skip_far(&mut self, class: class_t)
         ensures { self.new ≡ after_run (class_test class) self.old }
     {
         *self = self.again().past_run(class);
@@ -455,7 +470,7 @@ impl<'a> cursor_t<'a> {
         ensures { self.new ≡ after_run (class_test class) self.old }
     {
         if is_in(class, self.peek(0)) {
-            self.skip_rarely(class);
+            self.skip_far(class);
         }
     }
 
@@ -481,7 +496,7 @@ impl<'a> cursor_t<'a> {
         ensures end { self.new ≡ after_run (class_test class) self.old }
     {
         let start = self.left();
-        self.skip_rarely(class);
+        self.skip_far(class);
         let left = self.left();
         front(start, start.len() - left.len())
     }

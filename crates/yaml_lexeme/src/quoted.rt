@@ -1,5 +1,6 @@
 //! Quoted scalars.
-ghost use Rattle.std.specs.Prelude.{ℕ, Bool, ◌≡◌, ◌≤◌, ◌++◌, false, true, List, Ok, Err, if◌then◌else◌, length};
+ghost use Rattle.std.specs.Prelude.{ℕ, Bool, ◌≡◌, ◌+◌, ◌<◌, ◌≤◌, ◌++◌, false, true, List, Ok, Err, if◌then◌else◌};
+ghost use Rattle.std.specs.Prelude.{IfOk, length};
 ghost use Rattle.std.specs.Prelude.{OnOk, take};
 ghost use Rattle.yaml_text.specs.Chars.{utf8};
 ghost use Rattle.yaml_text.specs.Classes.{is_break};
@@ -10,18 +11,23 @@ ghost use Rattle.yaml_lexeme.specs.Kind as kind;
 ghost use Rattle.yaml_lexeme.specs.Quoted as spec;
 ghost use Rattle.yaml_lexeme.specs.inside.Runs as runs;
 ghost use Rattle.yaml_lexeme.specs.inside.Gives.{Gives, Takes};
-ghost use Rattle.yaml_lexeme.specs.inside.Words.{GoesOn, LeadsOn};
+ghost use Rattle.yaml_lexeme.specs.inside.Words.{GoesOn, IsPiece, LeadsOn, LeavesMore};
 ghost use Rattle.yaml_lexeme.specs.Place.{Place, first, peek};
-ghost use Rattle.yaml_lexeme.specs.Reading.{over};
+ghost use Rattle.yaml_lexeme.specs.Reading.{many, over, with_front};
+ghost use Rattle.yaml_lexeme.specs.Quoted.{spelled};
 ghost use Rattle.yaml_lexeme.specs.Escape.{backslash};
 
 use crate::classes::{is_break, is_white};
-use crate::escape::take_escape;
-use crate::fold::{copied_front, emptied, push_breaks, push_char, push_front, push_separator};
+use crate::escape::{byte_escape, four_digits, pass_four, pass_two, take_escape};
+use crate::fold::{
+    copied_front, emptied, push_behind, push_breaks, push_char, push_char_behind, push_front,
+    push_separator,
+};
 use crate::kind::is_marker;
 use crate::place::{check_at, cursor_t, is_at};
 use crate::problem::{offence, refused, yaml_problem_t, yaml_refusal_t};
 use crate::runs::{class_t, trimmed};
+use crate::short::{STAGE, short_len};
 use std::alloc::AllocError;
 
 /// A document marker here is an offence.
@@ -89,6 +95,7 @@ fn take_escaped(cursor: &mut cursor_t, out: &mut Vec<u8>) -> Result<bool, yaml_r
 
 /// Takes a part of the body, and appends its bytes to `out`. The flag is false at the closing quote.
 #[tactic(auto, unfolding(crate::specs::Quoted::body_part))]
+#[inline(always)]
 fn take_part(cursor: &mut cursor_t, single: bool, out: &mut Vec<u8>) -> Result<bool, yaml_refusal_t>
     ensures { Takes utf8 result out.old.items out.new.items cursor.old cursor.new (spec.body_part single cursor.old) }
 {
@@ -136,6 +143,22 @@ fn line_class(single: bool) -> class_t
     }
 }
 
+/// A piece that is kept unchanged in a line, and after which the cursor is, without the blanks before a break.
+#[inline(always)]
+fn unblanked<'a>(cursor: &cursor_t, single: bool, piece: &'a [u8]) -> &'a [u8]
+    ensures goes { (p : Place) (out : List ℕ) → IsPiece single p cursor.now piece.now
+        → GoesOn single p out cursor.now (out ++ result.now) }
+    ensures front { (p : Place) → IsPiece single p cursor.now piece.now
+        → result.now ≡ take (length result.now) (utf8 p.rest) }
+    ensures within { (p : Place) → IsPiece single p cursor.now piece.now
+        → length result.now ≤ length (utf8 p.rest) }
+{
+    if is_at!(cursor, is_break, 0) {
+        return trimmed(piece);
+    }
+    piece
+}
+
 /// Takes what is kept unchanged in this line, and returns its bytes, without the blanks before a break.
 #[inline(always)]
 fn line_piece<'a>(cursor: &mut cursor_t<'a>, single: bool) -> &'a [u8]
@@ -145,10 +168,7 @@ fn line_piece<'a>(cursor: &mut cursor_t<'a>, single: bool) -> &'a [u8]
     ensures shorter { length cursor.new.rest ≤ length cursor.old.rest }
 {
     let piece = cursor.quick_run(line_class(single));
-    if is_at!(cursor, is_break, 0) {
-        return trimmed(piece);
-    }
-    piece
+    unblanked(cursor, single, piece)
 }
 
 /// Takes what is kept unchanged in this line, and appends it to `out` as one piece, without the blanks before a break.
@@ -166,16 +186,105 @@ fn push_line(cursor: &mut cursor_t, single: bool, out: &mut Vec<u8>) -> Result<(
     Ok(())
 }
 
-/// How many bytes a scalar gets room for after what was taken of it: none if its quote is here.
+/// Takes an escape of four hex digits, and what is kept after it in this line, if that is short, and appends both to
+/// `out`. Returns whether it was so. Otherwise nothing is taken.
+#[inline(always)]
+fn take_short_hex(cursor: &mut cursor_t, next: char, out: &mut Vec<u8>) -> Result<bool, AllocError>
+    requires backslash { first cursor.old ≡ backslash }
+    requires next { next ≡ peek cursor.old 1 }
+    requires long { 22 ≤ length (utf8 cursor.old.rest) }
+    ensures goes { OnOk result (GoesOn false cursor.old out.old.items cursor.new out.new.items) }
+    ensures shorter { IfOk result (λ more.
+        length cursor.new.rest + (if more then 1 else 0) ≤ length cursor.old.rest) }
+{
+    let bytes = cursor.left();
+    if next != 'u' {
+        return Ok(false);
+    }
+    let Some(c) = four_digits(&bytes[2..]) else {
+        return Ok(false);
+    };
+    let n = short_len(&bytes[6..]);
+    if n == STAGE {
+        return Ok(false);
+    }
+    push_char_behind(out, c, &bytes[4..], n)?;
+    pass_two(cursor);
+    pass_four(cursor);
+    cursor.pass_short(n);
+    Ok(true)
+}
+
+/// Takes an escape that gives a byte or has four hex digits, and what is kept after it in this line, if that is short,
+/// and appends both to `out`. Returns whether it was so. Otherwise nothing is taken.
+#[inline(always)]
+fn take_short(cursor: &mut cursor_t, out: &mut Vec<u8>) -> Result<bool, AllocError>
+    ensures goes { OnOk result (GoesOn false cursor.old out.old.items cursor.new out.new.items) }
+    ensures shorter { IfOk result (λ more.
+        length cursor.new.rest + (if more then 1 else 0) ≤ length cursor.old.rest) }
+{
+    let bytes = cursor.left();
+    if bytes.len() < STAGE + 6 || !check_at!(cursor, '\\', 0) {
+        return Ok(false);
+    }
+    let next = cursor.peek(1);
+    let byte = byte_escape(next);
+    if byte == 0 {
+        return take_short_hex(cursor, next, out);
+    }
+    let n = short_len(&bytes[2..]);
+    if n == STAGE {
+        return Ok(false);
+    }
+    push_behind(out, byte, &bytes[1..], n)?;
+    pass_two(cursor);
+    cursor.pass_short(n);
+    Ok(true)
+}
+
+/// Takes a part of the body and what is kept after it in its line, and appends both to `out`. The flag is false at the
+/// closing quote.
+#[inline(always)]
+fn take_turn(cursor: &mut cursor_t, single: bool, out: &mut Vec<u8>) -> Result<bool, yaml_refusal_t>
+    ensures value { LeavesMore result
+        (with_front out.old.items (spelled (many (spec.body_part single) cursor.old)))
+        (with_front out.new.items (spelled (many (spec.body_part single) cursor.new)))
+        out.new.items cursor.new }
+    ensures shorter { IfOk result (λ more. more ≡ true → length cursor.new.rest < length cursor.old.rest) }
+{
+    if !single && take_short(cursor, out)? {
+        return Ok(true);
+    }
+    if !take_part(cursor, single, out)? {
+        return Ok(false);
+    }
+    push_line(cursor, single, out)?;
+    Ok(true)
+}
+
+/// How many bytes a scalar gets room for after what was taken of it: none if a quote is here. In double quotes it would
+/// be the closing one, and then there is nothing left to take.
 #[inline(always)]
 fn room_after(cursor: &cursor_t, single: bool) -> usize
     ensures { result ≤ 64 }
 {
-    if cursor.peek(0) == quote(single) {
+    if single && check_at!(cursor, '\'', 0) {
         0
     } else {
         64
     }
+}
+
+/// Appends the first `n` bytes to `out`, which has room for no more in single quotes, and else for a stage.
+#[inline(always)]
+fn push_kept(out: &mut Vec<u8>, single: bool, bytes: &[u8], n: usize) -> Result<(), AllocError>
+    requires { n ≤ length bytes.now }
+    ensures { OnOk result (out.new.items ≡ out.old.items ++ take n bytes.now) }
+{
+    if single {
+        return out.extend_from_slice(&bytes[..n]);
+    }
+    push_front(out, bytes, n)
 }
 
 /// Takes the parts of a quoted scalar after those of its first line, which are in `out`, and its closing quote. The
@@ -189,47 +298,46 @@ fn take_parts(
     ensures { (p : Place) → LeadsOn single p out.items cursor.old
         → Gives (λ v. v.items) result cursor.new (spec.quoted single p) }
 {
-    'parts: while take_part(cursor, single, &mut out)? {
-        push_line(cursor, single, &mut out)?;
-    }
+    'parts: while take_turn(cursor, single, &mut out)? {}
     cursor.advance();
     Ok(out)
 }
 
-/// Takes what is left of a quoted scalar after its first line, of which `kept` is kept. Its value is put into `room` if
-/// it fits.
+/// Takes what is left of a quoted scalar after its first line, of which the first `len` bytes are kept. Its value is
+/// put into `room` if it fits.
 #[inline(never)]
-fn take_rest(
+fn take_rest<const SINGLE: bool>(
     room: Vec<u8>,
     cursor: &mut cursor_t,
-    single: bool,
-    kept: &[u8],
+    left: &[u8],
+    len: usize,
 ) -> Result<Vec<u8>, yaml_refusal_t>
-    ensures { (p : Place) → LeadsOn single p kept.now cursor.old
-        → Gives (λ v. v.items) result cursor.new (spec.quoted single p) }
+    requires { len ≤ length left.now }
+    ensures { (p : Place) → LeadsOn SINGLE p (take len left.now) cursor.old
+        → Gives (λ v. v.items) result cursor.new (spec.quoted SINGLE p) }
 {
     let mut here = cursor.again();
-    let mut out = emptied(room, kept.len() + room_after(cursor, single))?;
-    out.extend_from_slice(kept)?;
-    let taken = take_parts(&mut here, single, out);
+    let mut out = emptied(room, len + room_after(cursor, SINGLE))?;
+    push_kept(&mut out, SINGLE, left, len)?;
+    let taken = take_parts(&mut here, SINGLE, out);
     *cursor = here;
     taken
 }
 
-/// Takes what is left of a quoted scalar after its first line, of which `kept` is kept, as `take_rest` does. It gets a
-/// copy of the cursor, so that the cursor itself stays in registers.
+/// The same, but the cursor of the caller stays in registers, since a copy of it is given away.
 #[inline(always)]
-fn take_more(
+fn take_apart<const SINGLE: bool>(
     room: Vec<u8>,
     cursor: &mut cursor_t,
-    single: bool,
-    kept: &[u8],
+    left: &[u8],
+    len: usize,
 ) -> Result<Vec<u8>, yaml_refusal_t>
-    ensures { (p : Place) → LeadsOn single p kept.now cursor.old
-        → Gives (λ v. v.items) result cursor.new (spec.quoted single p) }
+    requires { len ≤ length left.now }
+    ensures { (p : Place) → LeadsOn SINGLE p (take len left.now) cursor.old
+        → Gives (λ v. v.items) result cursor.new (spec.quoted SINGLE p) }
 {
     let mut here = cursor.again();
-    let taken = take_rest(room, &mut here, single, kept);
+    let taken = take_rest::<SINGLE>(room, &mut here, left, len);
     *cursor = here;
     taken
 }
@@ -245,14 +353,19 @@ pub(crate) fn take_quoted(
 {
     cursor.advance();
     let left = cursor.left();
-    let len = line_piece(cursor, single).len();
+    let piece = cursor.quick_run(line_class(single));
     if closes(cursor, single) {
-        let value = match copied_front(room, left, len) {
+        let value = match copied_front(room, left, piece.len()) {
             Ok(value) => value,
             Err(refusal) => return Err(refused(refusal)),
         };
         cursor.pass();
         return Ok(value);
     }
-    take_more(room, cursor, single, &left[..len])
+    let len = unblanked(cursor, single, piece).len();
+    if single {
+        take_apart::<true>(room, cursor, left, len)
+    } else {
+        take_apart::<false>(room, cursor, left, len)
+    }
 }

@@ -85,7 +85,7 @@ quiet_high q high c more h =
     quiet4 e = let f : q (240 + c / 262144) ≡ true = ap (λ (x : List ℕ). q (get_or x 0 0)) (sym e) ∙ h in rw (e, f, on c, on (c / 64), on (c / 4096)) (omega arith)
 
 -- the first byte of a character beyond ASCII
-lead_high : (c : ℕ) → 128 ≤ c → 192 ≤ get_or (encode c) 0 0
+pub lead_high : (c : ℕ) → 128 ≤ c → 192 ≤ get_or (encode c) 0 0
 lead_high c l =
     elim (cases_lt c 2048) [
       | inl b ↦ rw (two c l b) (omega arith)
@@ -184,7 +184,7 @@ one_over class m c cs n good o =
       goes = rw pass (omega (arith, o.goes));
     }
 
-lead_of : (c : ℕ) (more : List ℕ) → get_or (encode c ++ more) 0 0 ≡ get_or (encode c) 0 0
+pub lead_of : (c : ℕ) (more : List ℕ) → get_or (encode c ++ more) 0 0 ≡ get_or (encode c) 0 0
 lead_of c more =
     elim (cases_lt c 128) [
       | inl a ↦ rw (encode_ascii c a) refl
@@ -261,7 +261,7 @@ quiet_begins : (class : class_t) (b : ℕ) → is_line class ≡ false → is_qu
 quiet_begins class b n h =
     elim (low_or_wide class) [ inl low ↦ count1 b (low b h) | inr wide ↦ absurd (true≢false (sym wide.line ∙ n)) ]
 
-counted_all : (p q : ℕ → Bool) → ((b : ℕ) → q b ≡ true → p b ≡ true) → (xs : List ℕ) → count_by p (take (prefix_len q xs) xs) ≡ prefix_len q xs
+pub counted_all : (p q : ℕ → Bool) → ((b : ℕ) → q b ≡ true → p b ≡ true) → (xs : List ℕ) → count_by p (take (prefix_len q xs) xs) ≡ prefix_len q xs
 counted_all p q all [] = refl
 counted_all p q all (x ∷ xs) =
     elim (cases_Bool (q x)) [

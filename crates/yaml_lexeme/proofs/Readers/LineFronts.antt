@@ -1,11 +1,12 @@
 -- The bytes of a run are the first bytes of what is left, and so are those of its trimmed piece.
-use Rattle.std.proofs.Common.{◌≡◌, ℕ, ◌≤◌, Bool, List, ◌++◌, length, take, drop, sym, ap, ◌∙◌, arith, append_assoc}
+use Rattle.std.proofs.Common.{◌≡◌, ℕ, ◌≤◌, Bool, List, ◌++◌, length, take, drop, sym, ap, subst, ◌∙◌, arith, append_assoc}
 use Rattle.std.proofs.lemmas.List.{take-append-drop, length-append}
 use Rattle.std.proofs.lemmas.Str.{encodes-append}
 use Rattle.std.proofs.Math.Seq.{take-append_seam}
 use Rattle.yaml_text.specs.Chars.{utf8}
 use Rattle.yaml_lexeme.specs.Place.{Place, run, run_len}
-use Rattle.yaml_lexeme.specs.inside.Runs.{trim}
+use Rattle.yaml_lexeme.specs.inside.Runs.{class_test, line_of, trim}
+use Rattle.yaml_lexeme.specs.inside.Words.{IsPiece}
 use Rattle.yaml_lexeme.proofs.ManyBytes.TrimmedLists.{trimmed}
 
 -- xs are the first of ys
@@ -34,3 +35,6 @@ trimmed_front test p =
     let t = trimmed bs in
     front_of (trim bs) (t.blanks ++ utf8 (drop (run_len test p) p.rest)) (utf8 p.rest)
     (whole (run_len test p) p.rest ∙ ap (λ (x : List ℕ). x ++ utf8 (drop (run_len test p) p.rest)) t.parts ∙ append_assoc (trim bs) t.blanks (utf8 (drop (run_len test p) p.rest)))
+
+pub piece_front : (single : Bool) (p q : Place) (piece : List ℕ) → IsPiece single p q piece → IsFront piece (utf8 p.rest)
+piece_front single p q piece is = subst (λ (y : List ℕ). IsFront y (utf8 p.rest)) (sym is.1) (run_front (class_test (line_of single)) p)

@@ -6,12 +6,13 @@ use Rattle.yaml_text.specs.Chars.{utf8}
 use Rattle.yaml_lexeme.specs.declared.problem.yaml_refusal_t.{yaml_refusal_t}
 use Rattle.yaml_lexeme.specs.declared.runs.class_t.{class_t}
 use Rattle.yaml_lexeme.specs.declared.runs.class_t.TheVariants.{PLAIN, FLOW}
-use Rattle.yaml_lexeme.specs.Place.{Place, peek, skip, first}
+use Rattle.yaml_lexeme.specs.Place.{Place, peek, skip, first, run, after_run}
 use Rattle.yaml_lexeme.specs.Classes.{is_white}
 use Rattle.yaml_lexeme.specs.Reading.{Read, found, ◌>>=◌, many, with_front, refuse}
 use Rattle.yaml_lexeme.specs.Quoted.{body_part, spelled}
 use Rattle.yaml_lexeme.specs.Plain.{is_bad_colon, is_chunk, chunk, is_over, link}
 use Rattle.yaml_lexeme.specs.inside.Gives.{Refuses}
+use Rattle.yaml_lexeme.specs.inside.Runs.{class_test, line_of}
 use Rattle.yaml_lexeme.specs.declared.problem.yaml_problem_t.TheVariants.{TAB_IN_PLAIN}
 
 -- What is still to be read makes the same whole: after `old` from p on, and after `new` from q on.
@@ -20,6 +21,11 @@ GoesOn single p old q new =
     (whole : Read (List ℕ))
     → with_front old (spelled (many (body_part single) p)) ≡ whole
     → with_front new (spelled (many (body_part single) q)) ≡ whole
+
+-- A piece is what is kept unchanged between quotes in the line at p, and q comes after it.
+abbrev pub IsPiece : Bool → Place → Place → List ℕ → Type 0
+IsPiece single p q piece =
+    (q ≡ after_run (class_test (line_of single)) p) × (piece ≡ utf8 (run (class_test (line_of single)) p))
 
 -- What is read of the body of the quoted scalar at p is `out`, and then what is read from q on.
 abbrev pub LeadsOn : Bool → Place → List ℕ → Place → Type 0
