@@ -232,6 +232,9 @@ fn take_short(cursor: &mut cursor_t, out: &mut Vec<u8>) -> Result<bool, AllocErr
     if byte == 0 {
         return take_short_hex(cursor, next, out);
     }
+    if bytes[2] >= 0x80 {
+        return Ok(false);
+    }
     let n = short_len(&bytes[2..]);
     if n == STAGE {
         return Ok(false);
