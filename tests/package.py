@@ -35,8 +35,8 @@ from library import TOP, VERSION
 from places import NoRoot, make_folder, make_root
 from worked import rows
 
-# What is of this checkout and no part of the repository, as .gitignore has it: the first in any folder, the others in one. Any
-# folder may be called target, as that of the proofs of target.rt is.
+# What is of this checkout and no part of the repository, as .gitignore has it: the first in any folder, the others in one. A
+# folder elsewhere may be called target.
 MACHINE_FILES = {".git", "__pycache__", "out"}
 MACHINE_FILES_IN = {".": {"bin", "dist"}, "rust": {"Cargo.lock", "target"}}
 FULL = VERSION + "+test"

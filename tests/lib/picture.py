@@ -18,7 +18,7 @@ CALL = ("yamltok", "run", "run")
 LEFT_OUT = {("yamltok", "answer", "list_decoded"), ("yamltok", "answer", "list_called")}
 SHOWN = {
     "yamltok": "run answer line put",
-    "yaml_scan": "sink parser step source begin finish lay groups target",
+    "yaml_scan": "give parser step source layout groups sink",
     "yaml_lexeme": "gap kind lex plain place runs",
     "yaml_text": "decode ascii blocks",
 }

@@ -1,11 +1,33 @@
-//! Flow depth: how many flow collections are open (YAML 1.1, chapter 10, Collection Styles).
+//! Flow depth: how many flow collections are open (YAML 1.1, chapter 10, Collection Styles), and the slot of each
+//! depth, which keeps its candidate for a key.
 ghost use Rattle.std.specs.Prelude.{◌≡◌, ◌<◌, ◌||◌, true, vec_len};
 ghost use Rattle.std.specs.Vec.{vec_capacity};
-ghost use Rattle.yaml_scan.specs.Kind as kinds;
 ghost use Rattle.yaml_scan.specs.inside.Slots.{nested_outer, nested_top};
+ghost use Rattle.yaml_scan.specs.Kind as kinds;
 
-use crate::slots::slots_t;
 use yaml_lexeme::yaml_lexeme_kind_t;
+use yaml_text::yaml_mark_t;
+
+/// What is kept of a candidate: the number of its step, where it starts, and whether a `:` has to come.
+#[derive(Clone, Copy)]
+pub(crate) struct candidate_t {
+    pub step: u64,
+    pub start: yaml_mark_t,
+    pub required: bool,
+}
+
+/// The candidates of all depths.
+#[derive(Drop)]
+pub(crate) struct slots_t {
+    /// Those of the depths below the present one.
+    pub outer: Vec<Option<candidate_t>>,
+    /// How many of the lowest of these are empty: no slot below holds a candidate.
+    pub not_simple_keys: usize,
+    /// The candidate of the present depth.
+    pub top: Option<candidate_t>,
+    /// The step of the lowest candidate, or 0.
+    pub awaited: u64,
+}
 
 #[inline(always)]
 pub(crate) fn is_flow_start(kind: yaml_lexeme_kind_t) -> bool

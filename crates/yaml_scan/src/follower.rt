@@ -1,40 +1,183 @@
-//! What comes right after a lexeme: two steps that are made at once, if the next token needs both.
-ghost use Rattle.std.specs.Prelude.{ℕ, ◌≡◌, ◌+◌, ◌<◌, ◌≤◌, ◌^◌, ◌++◌, ◌∷◌, [], List, Some, true, false, length};
-ghost use Rattle.std.specs.Prelude.{Bool, IfSome, None, ◌||◌, ◌&&◌, if◌then◌else◌, slice_get, vec_len};
-ghost use Rattle.std.specs.Prelude.{filter, map, not, reverse, false};
+//! What comes right after a lexeme, and decides whether that is a key, or has to wait with it: two steps that are made
+//! at once, if the next token needs both.
+ghost use Rattle.std.specs.Prelude.{ℕ, Bool, ◌≡◌, ◌<◌, ◌≤◌, ◌++◌, ◌∷◌, ◌&&◌, [], List, None, true, false, not, length};
+ghost use Rattle.std.specs.Prelude.{reverse, filter, map, if◌then◌else◌, vec_len, ◌+◌, ◌^◌, Some, nat_eq, slice_get};
+ghost use Rattle.std.specs.Prelude.{IfSome, ◌||◌};
 ghost use Rattle.std.specs.Vec.{vec_capacity};
-ghost use Rattle.yaml_lexeme.specs.Counted.{IsMarkOf};
-ghost use Rattle.yaml_lexeme.specs.Lexeme.{Lexeme};
-ghost use Rattle.yaml_lexeme.specs.LexemeOf.{lexeme_of};
+ghost use Rattle.std.specs.VecDeque.{deque_capacity};
+ghost use Rattle.yaml_text.specs.Text.{Text};
 ghost use Rattle.yaml_text.specs.declared.token.yaml_token_t.{yaml_token_t as code_token_t};
 ghost use Rattle.yaml_text.specs.declared.types.yaml_mark_t.{yaml_mark_t};
 ghost use Rattle.yaml_text.specs.Token.{TokenData};
-ghost use Rattle.yaml_text.specs.Text.{Text};
-ghost use Rattle.yaml_scan.specs.Falling.{IsFalling};
-ghost use Rattle.yaml_scan.specs.Groups.Token.{BlockEnd};
-ghost use Rattle.yaml_scan.specs.Kind.{is_candidate_kind, is_flow_start, is_stream_end, is_value};
-ghost use Rattle.yaml_scan.specs.Levels.{stays};
-ghost use Rattle.yaml_scan.specs.declared.groups.block_t.TheVariants.{MAPPING, NONE};
-ghost use Rattle.yaml_scan.specs.inside.Opened.{is_new};
-ghost use Rattle.yaml_scan.specs.inside.Queue.{ends_at};
+ghost use Rattle.yaml_lexeme.specs.LexemeOf.{lexeme_of};
+ghost use Rattle.yaml_lexeme.specs.Lexeme.{Lexeme};
+ghost use Rattle.yaml_lexeme.specs.Counted.{IsMarkOf};
 ghost use Rattle.yaml_scan.specs.Laid.{Laid};
+ghost use Rattle.yaml_scan.specs.Falling.{IsFalling};
+ghost use Rattle.yaml_scan.specs.declared.groups.block_t.TheVariants.{MAPPING, NONE};
 ghost use Rattle.yaml_scan.specs.inside.Handed.{IsTokenOf, group_with, lone, read_to};
+ghost use Rattle.yaml_scan.specs.inside.Opened.{is_new};
+ghost use Rattle.yaml_scan.specs.inside.Queue.{closing, ends_at, begins_with_end, pending};
+ghost use Rattle.yaml_scan.specs.Groups.Token.{BlockEnd};
+ghost use Rattle.yaml_scan.specs.Kind.{is_flow_start, is_stream_end, is_candidate_kind, is_value};
+ghost use Rattle.yaml_scan.specs.Levels.{stays};
 ghost use Rattle.yaml_scan.specs.inside.Scanner.{scanner_of};
-ghost use Rattle.yaml_scan.specs.inside.Scanning.{CanLayAll, IsFollower, IsFollowed, LaysTwo, groups_in};
-ghost use Rattle.yaml_scan.specs.inside.Slots.{Held, is_live, nested_outer, nested_top};
+ghost use Rattle.yaml_scan.specs.inside.Scanning.{CanLayAll, IsDecided, IsUndecided, LaysTwo, groups_in, Waits};
+ghost use Rattle.yaml_scan.specs.inside.Scanning.{IsFollower, IsFollowed};
+ghost use Rattle.yaml_scan.specs.inside.Slots.{nested_outer, nested_top, Held, is_live};
 
 use crate::allowed::is_allowed_after;
-use crate::decided::{is_undecided, lay_candidate};
-use crate::depth::nest;
-use crate::groups::block_t;
-use crate::kind::is_colon;
-use crate::met::step_t;
-use crate::slots::slots_t;
+use crate::depth::{is_flow_start, nest, slots_t};
+use crate::groups::{block_t, has_ends, queue_t};
+use crate::keys::is_still_live;
+use crate::kind::{is_candidate, is_colon, step_t};
+use crate::levels::{close_levels, closing, is_new_level, open_level};
+use crate::scanner::state_t;
 use crate::source::{decider_at, decider_t};
-use crate::state::state_t;
-use crate::waiting::{is_outer_live, waits};
 use yaml_lexeme::yaml_lexeme_kind_t;
 use yaml_text::{yaml_mark_t, yaml_text_t};
+
+/// Whether the queue is empty, and has room for two groups.
+#[inline(always)]
+fn has_room_for_two(queue: &queue_t) -> bool
+    ensures empty { result ≡ true → queue.now.groups.items ≡ [] }
+    ensures room { result ≡ true → 1 < deque_capacity queue.now.groups }
+{
+    queue.groups.is_empty() && queue.groups.capacity() > 1
+}
+
+/// Whether a lexeme that starts at a mark closes no level.
+#[inline(always)]
+fn keeps_levels(levels: &[u64], in_flow: bool, kind: yaml_lexeme_kind_t, start: yaml_mark_t) -> bool
+    ensures { result ≡ true → closing in_flow kind start (reverse levels.now) ≡ None }
+{
+    closing(levels, in_flow, kind, start).is_none()
+}
+
+/// Whether the next token needs what comes after the lexeme of a step, which was read up to a mark: it is a candidate
+/// and no other token is before it. If `sparing`, its step closes no level, so that its token comes next. There is room
+/// for both.
+#[inline(always)]
+pub(crate) fn is_undecided(state: &state_t, sparing: bool, step: step_t, reach: yaml_mark_t) -> bool
+    ensures { (text : Text) → result ≡ true → IsUndecided (scanner_of text state.now) sparing step reach }
+{
+    is_candidate(step.kind)
+        && !is_flow_start(step.kind)
+        && step.allowed
+        && has_room_for_two(&state.layout.queue)
+        && (!sparing
+            || keeps_levels(
+                &state.layout.levels,
+                step.in_flow,
+                step.kind,
+                step.new.start,
+            ))
+        && is_still_live(state.limit, reach, step.new)
+}
+
+/// The start of a block mapping, or none.
+#[inline(always)]
+fn mapping_start(opens: bool) -> block_t
+    ensures { result ≡ (if opens then MAPPING else NONE) }
+{
+    if opens {
+        block_t::MAPPING
+    } else {
+        block_t::NONE
+    }
+}
+
+/// Closes the levels that the candidate of a step does not keep. If it is a key in a column above the others, opens
+/// that; outside flow there is room for it. Returns how many levels end at the candidate, and what it opens.
+#[inline(always)]
+pub(crate) fn lay_candidate(levels: &mut Vec<u64>, step: step_t, key: bool) -> (usize, block_t)
+    requires falls { IsFalling (reverse levels.old.items) }
+    requires room { step.in_flow ≡ false → vec_len levels.old < vec_capacity levels.old }
+    requires last { is_stream_end step.kind ≡ false }
+    ensures levels { (kept : List ℕ) × (reverse kept
+        ≡ filter (stays step.in_flow step.kind step.new.start) (reverse levels.old.items))
+        × (reverse levels.new.items ≡ (if key && is_new step.in_flow step.new.start.column (reverse kept)
+        then step.new.start.column ∷ [] else []) ++ reverse kept)
+        × (result.1 ≡ (if key && is_new step.in_flow step.new.start.column (reverse kept) then MAPPING else NONE)) }
+    ensures ends { ends_at result.0 step.new.start ≡ map (λ c. BlockEnd step.new.start) (filter (λ c.
+        not (stays step.in_flow step.kind step.new.start c)) (reverse levels.old.items)) }
+    ensures few { result.0 ≤ length levels.old.items }
+{
+    let start = step.new.start;
+    let closed = close_levels(levels, step, start);
+    let opens = key && is_new_level(levels, step.in_flow, start.column);
+    open_level(levels, opens, start.column);
+    (closed.ends, mapping_start(opens))
+}
+
+/// Whether the head of the queue is the token of the lowest candidate.
+#[inline(always)]
+pub(crate) fn is_awaited(state: &state_t) -> bool
+    requires { state.now.layout.queue.done + 1 < 2 ^ 64 }
+    ensures { result ≡ (nat_eq state.now.slots.awaited (state.now.layout.queue.done + 1)
+        && not (begins_with_end (pending state.now.layout.queue.early state.now.layout.queue.front
+        state.now.layout.queue.groups.items))) }
+{
+    state.slots.awaited == state.layout.queue.done + 1 && !has_ends(&state.layout.queue)
+}
+
+/// Whether the head of the queue is the token of the lowest candidate, and there is room for two more groups.
+#[inline(always)]
+fn is_awaited_with_room(state: &state_t) -> bool
+    requires { state.now.layout.queue.done + 1 < 2 ^ 64 }
+    ensures awaited { result ≡ true → state.now.slots.awaited ≡ state.now.layout.queue.done + 1 }
+    ensures ends { result ≡ true → begins_with_end (pending state.now.layout.queue.early
+        state.now.layout.queue.front state.now.layout.queue.groups.items) ≡ false }
+    ensures room { result ≡ true → length state.now.layout.queue.groups.items + 1
+        < deque_capacity state.now.layout.queue.groups }
+{
+    let groups = &state.layout.queue.groups;
+    groups.len() < groups.capacity().saturating_sub(1) && is_awaited(state)
+}
+
+/// Whether the slot of its depth is known after the lexeme of a step, which was read up to a mark: if a key is allowed,
+/// the lexeme is the candidate, and live, and if not, there is none.
+#[inline(always)]
+fn has_known_slot(state: &state_t, step: step_t, reach: yaml_mark_t) -> bool
+    ensures key { result ≡ true → step.allowed ≡ true → is_live state.now.limit reach step.new ≡ true }
+    ensures none { result ≡ true → step.allowed ≡ false → state.now.slots.top ≡ None }
+{
+    if step.allowed {
+        is_still_live(state.limit, reach, step.new)
+    } else {
+        state.slots.top.is_none()
+    }
+}
+
+/// Whether the lowest candidate is one of an outer depth, and live at a mark. Then all of them are.
+#[inline(always)]
+pub(crate) fn is_outer_live(slots: &slots_t, limit: u64, mark: yaml_mark_t) -> bool
+    ensures { result ≡ true → (h : Held) × ((slice_get slots.now.outer.items slots.now.not_simple_keys
+        ≡ Some (Some h)) × (is_live limit mark h ≡ true)) }
+{
+    match slots.outer.get(slots.not_simple_keys) {
+        None => false,
+        Some(slot) => match *slot {
+            None => false,
+            Some(held) => is_still_live(limit, mark, held),
+        },
+    }
+}
+
+/// Whether the lexeme of a step, which was read up to a mark, is in flow and has to wait until an earlier candidate is
+/// decided. There is room for it and for one group more, and the slot of its depth is known.
+#[inline(always)]
+pub(crate) fn waits(state: &state_t, step: step_t, reach: yaml_mark_t) -> bool
+    requires { state.now.layout.queue.done + 1 < 2 ^ 64 }
+    ensures { (text : Text) → result ≡ true → Waits (scanner_of text state.now) step reach }
+{
+    state.slots.awaited > 0
+        && step.in_flow
+        && is_candidate(step.kind)
+        && !is_flow_start(step.kind)
+        && is_awaited_with_room(state)
+        && has_known_slot(state, step, reach)
+}
 
 /// What comes right after a lexeme.
 #[derive(Drop)]

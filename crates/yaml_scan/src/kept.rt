@@ -20,13 +20,13 @@ ghost use Rattle.yaml_scan.specs.Scanned.{GoesOnBy};
 ghost use Rattle.yaml_scan.specs.Session.Call.{SCAN, PEEK};
 ghost use Rattle.yaml_scan.specs.Session.Answer.{PEEKED};
 
-use crate::fault::{fault_at, stop_t};
 use crate::groups::has_lead;
 use crate::parser::{begin, empty_text, yaml_parser_t};
 use crate::room::{give_while_room, show_next};
+use crate::scanner::state_t;
 use crate::session::{end, session_t};
-use crate::state::state_t;
-use crate::target::yaml_token_sink_t;
+use crate::sink::yaml_token_sink_t;
+use crate::stop::{fault_at, stop_t};
 use std::alloc::Global;
 use std::mem::replace;
 use yaml_text::{

@@ -10,10 +10,8 @@ ghost use Rattle.yaml_scan.specs.inside.Slots.{completed_held, nested_outer, nes
 ghost use Rattle.yaml_scan.specs.inside.Slots.{AreEmptyBelow};
 ghost use Rattle.yaml_scan.specs.inside.Slots.{AreNested};
 
-use crate::depth::{is_flow_start, nest, nests};
-use crate::kind::{is_candidate, is_colon};
-use crate::met::step_t;
-use crate::slots::{candidate_t, slots_t};
+use crate::depth::{candidate_t, is_flow_start, nest, nests, slots_t};
+use crate::kind::{is_candidate, is_colon, step_t};
 use yaml_lexeme::yaml_lexeme_kind_t;
 use yaml_text::yaml_mark_t;
 

@@ -1,10 +1,12 @@
-//! What the layout asks of a kind of lexeme.
+//! What the layout asks of a kind of lexeme, and what a step has met before it reads one.
 ghost use Rattle.std.specs.Prelude.{◌≡◌, true, ◌+◌, ◌<◌, ◌^◌};
+ghost use Rattle.std.specs.Option.{option_copied};
 ghost use Rattle.yaml_scan.specs.Kind.{is_candidate_kind, is_value, is_stream_end, closes_all};
 ghost use Rattle.yaml_scan.specs.Levels.{opens_level, stays};
-ghost use Rattle.yaml_scan.specs.Step.{end_of, start_at};
+ghost use Rattle.yaml_scan.specs.Step.{end_of, problem_of, start_at};
 
-use yaml_lexeme::yaml_lexeme_kind_t;
+use crate::depth::candidate_t;
+use yaml_lexeme::{yaml_context_t, yaml_lexeme_kind_t};
 use yaml_text::yaml_mark_t;
 
 pub(crate) fn is_candidate(kind: yaml_lexeme_kind_t) -> bool
@@ -57,6 +59,23 @@ pub(crate) fn is_opener(kind: yaml_lexeme_kind_t) -> bool
     )
 }
 
+/// What is wrong with a kind if no key is allowed at depth 0. `none`: it completes nothing.
+#[inline(always)]
+pub(crate) fn problem(kind: yaml_lexeme_kind_t, none: bool) -> Option<&'static str>
+    ensures { option_copied result ≡ problem_of kind none }
+{
+    match kind {
+        yaml_lexeme_kind_t::BLOCK_ENTRY => {
+            Some("block sequence entries are not allowed in this context")
+        }
+        yaml_lexeme_kind_t::KEY => Some("mapping keys are not allowed in this context"),
+        yaml_lexeme_kind_t::VALUE if none => {
+            Some("mapping values are not allowed in this context")
+        }
+        _ => None,
+    }
+}
+
 /// Whether a column stays open at a lexeme that starts at a mark.
 pub(crate) fn stays_open(
     in_flow: bool,
@@ -94,4 +113,17 @@ pub(crate) fn start_after(kind: yaml_lexeme_kind_t, front: yaml_mark_t) -> yaml_
     } else {
         front
     }
+}
+
+/// What a lexeme is read and laid with.
+#[derive(Clone, Copy)]
+pub(crate) struct step_t {
+    pub kind: yaml_lexeme_kind_t,
+    /// Whether it is inside a flow collection.
+    pub in_flow: bool,
+    /// Whether a key is allowed there.
+    pub allowed: bool,
+    /// What is kept of the lexeme, if it is a candidate.
+    pub new: candidate_t,
+    pub context: yaml_context_t,
 }

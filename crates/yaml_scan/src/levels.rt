@@ -14,10 +14,9 @@ ghost use Rattle.yaml_scan.specs.inside.Queue.{ends_at, closing, completed_in, o
 ghost use Rattle.yaml_scan.specs.inside.Queue.{KeepsRest};
 ghost use Rattle.yaml_scan.specs.inside.Slots.{is_level};
 
+use crate::depth::candidate_t;
 use crate::groups::{block_t, mark_key, queue_t};
-use crate::kind::{is_last, is_opener, stays_open};
-use crate::met::step_t;
-use crate::slots::candidate_t;
+use crate::kind::{is_last, is_opener, stays_open, step_t};
 use yaml_lexeme::yaml_lexeme_kind_t;
 use yaml_text::yaml_mark_t;
 

@@ -1,53 +1,39 @@
 //! The scanner of a YAML stream: its layout, its tokens.
 #![tactic(auto)]
 
-mod all;
 mod allowed;
-mod batch;
-mod begin;
 mod calls;
-mod decided;
 mod depth;
-mod fault;
-mod finish;
 mod follower;
+mod give;
 mod groups;
 mod kept;
 mod keys;
 mod kind;
 pub mod laws;
-mod lay;
+mod layout;
 mod levels;
-mod look;
-mod met;
 mod near;
 mod parser;
 mod room;
-mod scanned;
+mod scanner;
 mod session;
 mod settled;
 mod sink;
 #[cfg(test)]
 mod slot_tests;
-mod slots;
 mod source;
-mod state;
 mod step;
 mod stop;
-mod target;
-mod waiting;
 
-pub use all::{yaml_scan_all, yaml_scan_all_limit};
-pub use batch::yaml_scan_next_to;
 pub use calls::{yaml_answer_t, yaml_call_t, yaml_run};
+pub use give::{yaml_scan_all, yaml_scan_all_limit, yaml_scan_next_to, yaml_scan_to};
 pub use kept::{yaml_kept_parser_t, yaml_kept_peek, yaml_kept_scan_to};
 pub use parser::{
     yaml_parser_fault, yaml_parser_has_token, yaml_parser_mark, yaml_parser_peek,
-    yaml_parser_queued, yaml_parser_scan, yaml_parser_skip, yaml_parser_t,
+    yaml_parser_queued, yaml_parser_scan, yaml_parser_skip, yaml_parser_t, yaml_scan_next,
 };
-pub use scanned::yaml_scan_next;
-pub use sink::yaml_scan_to;
-pub use target::yaml_token_sink_t;
+pub use sink::yaml_token_sink_t;
 pub use yaml_lexeme::{
     yaml_context_t, yaml_gap, yaml_lexeme_at, yaml_lexeme_kind, yaml_lexeme_kind_t, yaml_lexeme_t,
 };

@@ -1,8 +1,9 @@
-//! The parser: scan, peek and skip, one call after the other.
-ghost use Rattle.std.specs.Prelude.{◌≡◌, ◌⊎◌, ◌+◌, ◌≤◌, ◌<◌, length, MatchResult, Some, true, false, option_map};
+//! The parser: scan, peek and skip, one call after the other; and the next token, if only tokens are taken.
+ghost use Rattle.std.specs.Prelude.{◌≡◌, ◌⊎◌, ◌+◌, ◌≤◌, ◌<◌, length, MatchResult, Some, true, false, option_map, ◌++◌};
+ghost use Rattle.std.specs.Prelude.{◌∷◌, [], List, IfOk, IfErr};
 ghost use Rattle.std.specs.Borrow.{sem};
 ghost use Rattle.yaml_text.specs.Fault.{Fault, fault_of};
-ghost use Rattle.yaml_text.specs.Token.{token_of};
+ghost use Rattle.yaml_text.specs.Token.{token_of, Token};
 ghost use Rattle.yaml_text.specs.declared.types.yaml_encoding_t.TheVariants.{YAML_UTF8_ENCODING};
 ghost use Rattle.yaml_text.specs.Text.{Text};
 ghost use Rattle.yaml_scan.specs.Decoded.{decoded_input};
@@ -15,25 +16,29 @@ ghost use Rattle.yaml_scan.specs.inside.Ready.{IsNew, IsReady, IsSettled, IsStop
 ghost use Rattle.yaml_scan.specs.inside.Ready.{IsStarted, IsShown};
 ghost use Rattle.yaml_scan.specs.Headline.{Calls};
 ghost use Rattle.yaml_scan.specs.Parser.{Parser};
-ghost use Rattle.yaml_scan.specs.ParserCalls.{input_read, course_read, answered, after_call};
-ghost use Rattle.yaml_scan.specs.ParserCalls.{scan_result, token_shown, IsThere, IsRefusedEarly};
+ghost use Rattle.yaml_scan.specs.ParserCalls.{input_read, course_read, answered, after_call, scan_result, token_shown};
+ghost use Rattle.yaml_scan.specs.ParserCalls.{IsThere, IsRefusedEarly, peek_result, copied};
 ghost use Rattle.yaml_scan.specs.inside.Shown.{Shows};
-ghost use Rattle.yaml_scan.specs.ParserCalls.{peek_result, copied};
 ghost use Rattle.yaml_scan.specs.CallMarks.{IsCountedIn, ReachesTo};
 ghost use Rattle.yaml_scan.specs.Session.Call.{SKIP, SCAN, PEEK};
 ghost use Rattle.yaml_scan.specs.Peek.{OnceLetGo};
 ghost use Rattle.yaml_scan.specs.Puts.{HasNext, IsAnsweredAlike};
 ghost use Rattle.yaml_scan.specs.inside.Stop.{fault_at};
+ghost use Rattle.yaml_scan.specs.Token.{type_of};
+ghost use Rattle.yaml_scan.specs.TokenTypes.{is_last_type};
+ghost use Rattle.yaml_scan.specs.All.{ReadsAll};
+ghost use Rattle.yaml_scan.specs.Scanned.{Scanned};
+ghost use Rattle.yaml_scan.specs.Session.Answer.{TOKEN, FAULT};
 
-use crate::fault::{fault_at, stop_t};
+use crate::depth::slots_t;
 use crate::groups::{has_lead, put_stream_start, queue_t, show_lead, take_next};
 use crate::keys::KEY_LIMIT;
 use crate::levels::layout_t;
 use crate::near::{near_of, near_start};
-use crate::session::{end, pass, session_t};
+use crate::scanner::state_t;
+use crate::session::{end, is_stream_end, pass, session_t};
 use crate::settled::settle_head;
-use crate::slots::slots_t;
-use crate::state::state_t;
+use crate::stop::{fault_at, stop_t};
 use std::alloc::Global;
 use std::collections::VecDeque;
 use std::marker::Model;
@@ -433,4 +438,33 @@ pub fn yaml_parser_mark(parser: &yaml_parser_t) -> yaml_mark_t
     ensures marks { ReachesTo parser.now result }
 {
     parser.state.reach
+}
+
+/// Takes the next token, as [`yaml_parser_scan`] does, and says whether it is the stream end.
+///
+/// If a new parser is asked so again and again, the tokens are those that [`yaml_scan_to`](crate::yaml_scan_to) gives,
+/// in order, to the stream end or before the fault.
+///
+/// # Errors
+/// The same as of [`yaml_parser_scan`].
+#[inline(always)]
+pub fn yaml_scan_next(parser: &mut yaml_parser_t) -> Result<(yaml_token_t, bool), yaml_fault_t>
+    ensures answers { MatchResult result
+        (λ r. Calls decoded_input SCAN parser.old (TOKEN (token_of r.0)) parser.new)
+        (λ fault. Calls decoded_input SCAN parser.old (FAULT (fault_of fault)) parser.new) }
+    ensures token { IfOk result (λ r. (given : List Token)
+        → Scanned parser.old.limit parser.old.setting parser.old.input parser.old given false
+        → Scanned parser.old.limit parser.old.setting parser.old.input parser.new (given ++ token_of r.0 ∷ []) r.1) }
+    ensures last { IfOk result (λ r. r.1 ≡ is_last_type (type_of (token_of r.0).token_data)) }
+    ensures fault { IfErr result (λ fault. (given : List Token)
+        → Scanned parser.old.limit parser.old.setting parser.old.input parser.old given false
+        → ReadsAll parser.old.limit parser.old.setting parser.old.input given (Some (fault_of fault))) }
+{
+    match yaml_parser_scan(parser) {
+        Ok(token) => {
+            let last = is_stream_end(&token);
+            Ok((token, last))
+        }
+        Err(fault) => Err(fault),
+    }
 }

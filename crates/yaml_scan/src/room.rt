@@ -14,14 +14,13 @@ ghost use Rattle.yaml_scan.specs.inside.Ready.{parser_of, scanner_in};
 ghost use Rattle.yaml_scan.specs.inside.Scanner.{scanner_of};
 ghost use Rattle.yaml_scan.specs.inside.Sent.{HasSentOrSettled};
 
-use crate::batch::send_on;
-use crate::fault::stop_t;
+use crate::give::{give_next, send_on};
 use crate::groups::{has_lead, show_lead};
+use crate::scanner::state_t;
 use crate::session::session_t;
 use crate::settled::settle_head;
-use crate::sink::give_next;
-use crate::state::state_t;
-use crate::target::{said_len, yaml_token_sink_t};
+use crate::sink::{said_len, yaml_token_sink_t};
+use crate::stop::stop_t;
 use yaml_text::{yaml_text_t, yaml_token_t};
 
 /// How many bytes the texts of the next token have, which is at the head of the queue.

@@ -11,10 +11,10 @@ ghost use Rattle.yaml_scan.specs.inside.Scanning.{IsRunning, StepsOn, IsLast, Ha
 ghost use Rattle.yaml_scan.specs.inside.Scanning.{Fails, Settles};
 ghost use Rattle.yaml_scan.specs.inside.Scanning.{Stops, history};
 
-use crate::fault::stop_t;
-use crate::state::state_t;
+use crate::follower::is_awaited;
+use crate::scanner::state_t;
 use crate::step::step;
-use crate::waiting::is_awaited;
+use crate::stop::stop_t;
 use yaml_text::yaml_text_t;
 
 /// Whether the head of the queue is the next token.

@@ -1,157 +1,465 @@
-//! Scanning to a sink, which takes the tokens of an input, one after the other.
-ghost use Rattle.std.specs.Prelude.{◌≡◌, ◌≤◌, ◌<◌, length, IfOk, MatchResult, OnErr, option_map};
-ghost use Rattle.yaml_text.specs.Fault.{fault_of};
+//! The sink of tokens, and where the group of a step goes: into the queue, or straight to a sink if nothing of it has
+//! to wait.
+ghost use Rattle.std.specs.Prelude.{◌≡◌, ℕ, ◌+◌, ◌<◌, ◌≤◌, ◌^◌, List, [], ◌∷◌, ◌++◌, ◌⊎◌, true, false, length};
+ghost use Rattle.std.specs.Prelude.{MatchResult, if◌then◌else◌, OnErr, OnOk};
+ghost use Rattle.std.specs.VecDeque.{deque_capacity};
+ghost use Rattle.yaml_text.specs.Token.{Token, data_of, token_of};
 ghost use Rattle.yaml_text.specs.Text.{Text};
-ghost use Rattle.yaml_scan.specs.KeyLimits.{most_key_limit};
-ghost use Rattle.yaml_scan.specs.Sink.{IsGivenAll, IsGivenFront};
-ghost use Rattle.yaml_text.specs.Token.{Token, token_of};
-ghost use Rattle.yaml_scan.specs.Settled.{before};
-ghost use Rattle.yaml_scan.specs.Words.{HasWords, HaveWords};
-ghost use Rattle.yaml_scan.specs.inside.Given.{GaveRest, GivesAll, IsSettledTo, StopsGiving, told_all};
-ghost use Rattle.yaml_scan.specs.inside.Handed.{GivesNext};
-ghost use Rattle.yaml_scan.specs.inside.Ready.{IsNew, Pops};
-ghost use Rattle.yaml_scan.specs.inside.Scanner.{Scanner, scanner_of};
-ghost use Rattle.yaml_scan.specs.inside.Scanning.{IsOpen, IsRunning, history};
+ghost use Rattle.yaml_scan.specs.Sink.{said_len, texts_len};
+ghost use Rattle.yaml_scan.specs.Words.{HasWords};
+ghost use Rattle.yaml_scan.specs.declared.stop.stop_t.TheVariants.{SINK};
+ghost use Rattle.yaml_scan.specs.inside.Queue.{ends_at, leads, start_at};
+ghost use Rattle.yaml_scan.specs.Groups.Token.{InsertedKey};
+ghost use Rattle.yaml_scan.specs.inside.Handed.{Gives, IsHandedOn, group_tokens, keys_of, lone, starts_of, told_leads};
+ghost use Rattle.yaml_scan.specs.inside.Scanner.{scanner_of};
 
-use crate::fault::{fault_at, stop_t, stopped};
-use crate::groups::{is_early, lead_t, lead_token, take_bare, take_early, take_lead};
-use crate::parser::{begin, new_state};
-use crate::session::is_stream_end;
-use crate::settled::is_settled;
-use crate::state::state_t;
-use crate::step::step_to;
-use crate::target::{give, yaml_token_sink_t};
+use crate::groups::{block_t, group_t, token_at};
+use crate::scanner::state_t;
+use crate::stop::{stop_by_sink, stop_t, stopped};
 use std::alloc::{AllocError, Global};
-use yaml_text::{yaml_encoding_t, yaml_fault_t, yaml_text_t, yaml_token_t};
+use std::collections::VecDeque;
+use yaml_text::{unnamed_yaml_token_t_data, yaml_mark_t, yaml_token_t};
 
-/// Makes steps until the head of the queue is the next token. The groups of steps that need not wait go to the sink.
-fn settle_to<S: yaml_token_sink_t>(
-    text: &yaml_text_t,
-    state: &mut state_t,
-    sink: &mut S,
-) -> Result<(), stop_t>
-    requires runs { IsRunning (scanner_of text.now state.old) }
-    requires still_open { IsOpen (scanner_of text.now state.old) }
-    ensures { MatchResult result
-        (λ _. IsSettledTo (scanner_of text.now state.old) (scanner_of text.now state.new)
-        (λ tokens. S.took sink.old tokens sink.new))
-        (λ stop. StopsGiving (scanner_of text.now state.old) state.new.fault stop
-        (λ tokens. S.took sink.old tokens sink.new)
-        S.may_refuse) }
-{
-    'steps: while !is_settled(text, state) {
-        step_to::<true, S>(text, state, sink)?;
-    }
-    Ok(())
+/// Takes the tokens of an input, one after the other.
+pub trait yaml_token_sink_t {
+    // Between two states these tokens were taken, in this order, and nothing else.
+    ghost took: { Self → List Token → Self → Type 0 };
+
+    // What is known if it found no memory for a token: nothing, or that this does not happen.
+    ghost may_refuse: { Type 0 };
+
+    // It has taken no more than it has room for.
+    ghost within: { Self → Type 0 };
+
+    // What is known if it says that so many more tokens, whose texts have so many bytes, find no room.
+    ghost lacks: { Self → ℕ → ℕ → Type 0 };
+
+    /// Takes a token. `AllocError` if it found no memory; then nothing was taken.
+    fn put(&mut self, token: yaml_token_t) -> Result<(), AllocError>
+        requires { HasWords (token_of token).token_data }
+        ensures taken { OnOk result (took self.old (token_of token ∷ []) self.new) }
+        ensures kept { OnErr result (took self.old [] self.new) }
+        ensures refused { OnErr result may_refuse };
+
+    /// A list in whose room the text of a token to come may be put. What is in it is thrown away.
+    fn room(&mut self, alloc: Global) -> Vec<u8>
+        ensures { took self.old [] self.new };
+
+    /// Whether so many more tokens find room, whose texts have so many bytes.
+    fn has_room(&self, count: u128, texts: u128) -> bool
+        ensures room { result ≡ true → within self.now → (tokens : List Token) (after : Self) → length tokens ≤ count
+            → texts_len tokens ≤ texts → took self.now tokens after → within after }
+        ensures lack { result ≡ false → lacks self.now count texts };
+
+    ghost took_none: { (s : Self) → took s [] s };
+
+    ghost took_more: { (a b c : Self) (xs ys : List Token) → took a xs b → took b ys c → took a (xs ++ ys) c };
+
+    ghost within_none: { (a b : Self) → took a [] b → within a → within b };
 }
 
-/// Gives a token to a sink. Returns whether it is the stream end.
+/// The sink of a scanner whose tokens all go through the queue. It is given none.
+#[derive(Drop)]
+pub(crate) struct no_sink_t {}
+
+impl yaml_token_sink_t for no_sink_t {
+    ghost took = { λ a tokens b. Unit {0} };
+
+    ghost may_refuse = { Unit {0} };
+
+    ghost within = { λ s. Unit {0} };
+
+    ghost lacks = { λ s count texts. Unit {0} };
+
+    fn put(&mut self, _token: yaml_token_t) -> Result<(), AllocError> {
+        Ok(())
+    }
+
+    #[inline(always)]
+    fn room(&mut self, alloc: Global) -> Vec<u8> {
+        Vec::new(alloc)
+    }
+
+    #[inline(always)]
+    fn has_room(&self, _count: u128, _texts: u128) -> bool {
+        true
+    }
+
+    ghost took_none = { λ s. tt };
+
+    ghost took_more = { λ a b c xs ys e f. tt };
+
+    ghost within_none = { λ a b e w. tt };
+}
+
+/// Gives a token to a sink.
 #[inline(always)]
-fn give_taken<S: yaml_token_sink_t>(sink: &mut S, token: yaml_token_t) -> Result<bool, stop_t>
+pub(crate) fn give<S: yaml_token_sink_t>(sink: &mut S, token: yaml_token_t) -> Result<(), stop_t>
     requires { HasWords (token_of token).token_data }
-    ensures { GivesNext (λ tokens. S.took sink.old tokens sink.new) S.may_refuse (token_of token) result }
+    ensures { Gives (λ tokens. S.took sink.old tokens sink.new) S.may_refuse (token_of token ∷ []) result }
 {
-    let last = is_stream_end(&token);
-    give(sink, token)?;
-    Ok(last)
-}
-
-/// Takes the head of the queue, and gives it to a sink. Returns whether it is the stream end. Each way in which a token
-/// is taken gives it by itself, so that the compiler moves it once.
-#[inline(always)]
-pub(crate) fn give_next<S: yaml_token_sink_t>(
-    _text: &yaml_text_t,
-    state: &mut state_t,
-    sink: &mut S,
-) -> Result<bool, stop_t>
-    requires runs { IsRunning (scanner_of _text.now state.old) }
-    requires settled { state.old.taken < length (before state.old.limit (history (scanner_of _text.now state.old))) }
-    requires words { (t : Scanner) (x : Token) → Pops (scanner_of _text.now state.old) t x → HasWords x.token_data }
-    ensures { (x : Token) × Pops (scanner_of _text.now state.old) (scanner_of _text.now state.new) x
-        × GivesNext (λ tokens. S.took sink.old tokens sink.new) S.may_refuse x result }
-{
-    state.taken += 1;
-    let queue = &mut state.layout.queue;
-    if is_early(queue) {
-        return give_taken(sink, take_early(queue));
-    }
-    let (lead, mark) = take_lead(queue);
-    match lead {
-        lead_t::NOTHING => give_taken(sink, take_bare(queue)),
-        _ => give_taken(sink, lead_token(lead, mark)),
+    match sink.put(token) {
+        Ok(_) => Ok(()),
+        Err(_) => Err(stop_by_sink()),
     }
 }
 
-/// Gives the tokens of a scanner that has made the first step to a sink, up to the stream end.
-fn give_rest<S: yaml_token_sink_t>(
-    text: &yaml_text_t,
-    state: &mut state_t,
+/// Gives block ends of one mark to a sink.
+fn give_ends<S: yaml_token_sink_t>(
     sink: &mut S,
+    ends: usize,
+    mark: yaml_mark_t,
 ) -> Result<(), stop_t>
-    requires runs { IsRunning (scanner_of text.now state.old) }
-    requires still_open { IsOpen (scanner_of text.now state.old) }
-    requires words { HaveWords (told_all (scanner_of text.now state.old)) }
-    ensures { MatchResult result (λ _. GaveRest (scanner_of text.now state.old)
-        (λ tokens. S.took sink.old tokens sink.new))
-        (λ stop. StopsGiving (scanner_of text.now state.old) state.new.fault stop
-        (λ tokens. S.took sink.old tokens sink.new)
-        S.may_refuse) }
+    ensures { Gives (λ tokens. S.took sink.old tokens sink.new) S.may_refuse (told_leads (ends_at ends mark)) result }
 {
-    let mut last = false;
-    'tokens: while !last {
-        settle_to(text, state, sink)?;
-        last = match give_next(text, state, sink) {
-            Ok(last) => last,
-            Err(stop) => return Err(stopped(stop)),
-        };
+    'ends: for _ in 0..ends {
+        give(sink, token_at(unnamed_yaml_token_t_data::BLOCK_END, mark))?;
     }
     Ok(())
 }
 
-/// Gives the tokens of a new scanner to a sink, up to the stream end.
-fn give_all<S: yaml_token_sink_t>(
-    state: &mut state_t,
-    input: &[u8],
-    setting: yaml_encoding_t,
+/// Gives the start of a block collection, or none, to a sink.
+fn give_start<S: yaml_token_sink_t>(
     sink: &mut S,
+    opens: block_t,
+    mark: yaml_mark_t,
 ) -> Result<(), stop_t>
-    requires { (text : Text) → IsNew (scanner_of text state.old) }
-    ensures { GivesAll (λ tokens. S.took sink.old tokens sink.new) S.may_refuse state.old.limit setting input.now
-        state.new.fault result }
+    ensures { Gives (λ tokens. S.took sink.old tokens sink.new) S.may_refuse (told_leads (start_at opens mark)) result }
 {
-    let text = begin(state, input, setting)?;
-    give_rest(&text, state, sink)
+    match opens {
+        block_t::NONE => Ok(()),
+        block_t::SEQUENCE => {
+            give(
+                sink,
+                token_at(unnamed_yaml_token_t_data::BLOCK_SEQUENCE_START, mark),
+            )
+        }
+        block_t::MAPPING => {
+            give(
+                sink,
+                token_at(unnamed_yaml_token_t_data::BLOCK_MAPPING_START, mark),
+            )
+        }
+    }
 }
 
-/// Gives all tokens of an input to a sink, in order: to STREAM-END, or those before its fault, and returns the fault.
-/// The key limit is in bytes, from 1 to 65,536.
-///
-/// If the scanner is refused memory, the fault is of kind memory, and the tokens are those that some of the steps
-/// settle, STREAM-END not among them.
-///
-/// # Errors
-/// `AllocError` if the sink found no memory for a token. Then it was given the tokens before that one.
-pub fn yaml_scan_to<S: yaml_token_sink_t>(
-    alloc: Global,
-    input: &[u8],
-    setting: yaml_encoding_t,
-    limit: u32,
+/// Gives block ends, and then the start of a block collection or none, to a sink.
+#[inline(never)]
+fn give_blocks<S: yaml_token_sink_t>(
     sink: &mut S,
-) -> Result<Option<yaml_fault_t>, AllocError>
-    requires least { 1 ≤ limit }
-    requires most { limit ≤ most_key_limit }
-    ensures given { IfOk result (λ fault.
-        IsGivenAll (λ tokens. S.took sink.old tokens sink.new) limit setting input.now (option_map fault_of fault)) }
-    ensures cut { OnErr result (
-        IsGivenFront (λ tokens. S.took sink.old tokens sink.new) limit setting input.now) }
-    ensures refused { OnErr result S.may_refuse }
+    ends: usize,
+    opens: block_t,
+    mark: yaml_mark_t,
+) -> Result<(), stop_t>
+    ensures { Gives (λ tokens. S.took sink.old tokens sink.new) S.may_refuse
+        (told_leads (ends_at ends mark ++ start_at opens mark)) result }
 {
-    let mut state = new_state(alloc, limit as u64);
-    match give_all(&mut state, input, setting, sink) {
-        Ok(_) => Ok(None),
-        Err(stop) => match stop {
-            stop_t::SINK => Err(AllocError),
-            _ => Ok(Some(fault_at(stop, &state.fault))),
-        },
+    give_ends(sink, ends, mark)?;
+    give_start(sink, opens, mark)
+}
+
+/// Whether a group hands out a block end or the start of a block collection.
+#[inline(always)]
+fn has_blocks(group: &group_t) -> bool
+    ensures { result ≡ false → ends_at group.now.ends group.now.token.start_mark
+        ++ start_at group.now.opens group.now.token.start_mark ≡ [] }
+{
+    group.ends > 0 || !matches!(group.opens, block_t::NONE)
+}
+
+/// Gives the block ends of a group and the start of a block collection to a sink, if it hands out any.
+#[inline(always)]
+fn give_front<S: yaml_token_sink_t>(sink: &mut S, group: &group_t) -> Result<(), stop_t>
+    ensures { let mark = group.now.token.start_mark in
+        Gives (λ tokens. S.took sink.old tokens sink.new) S.may_refuse
+        (told_leads (ends_at group.now.ends mark ++ start_at group.now.opens mark)) result }
+{
+    if has_blocks(group) {
+        give_blocks(sink, group.ends, group.opens, group.token.start_mark)
+    } else {
+        Ok(())
+    }
+}
+
+/// Gives a key, or none, to a sink.
+#[inline(always)]
+fn give_key<S: yaml_token_sink_t>(sink: &mut S, key: bool, mark: yaml_mark_t) -> Result<(), stop_t>
+    ensures { Gives (λ tokens. S.took sink.old tokens sink.new) S.may_refuse
+        (told_leads (if key then InsertedKey mark ∷ [] else [])) result }
+{
+    if key {
+        give(sink, token_at(unnamed_yaml_token_t_data::KEY, mark))
+    } else {
+        Ok(())
+    }
+}
+
+/// Gives what a group hands out before its token to a sink.
+#[inline(always)]
+fn give_leads<S: yaml_token_sink_t>(sink: &mut S, group: &group_t) -> Result<(), stop_t>
+    ensures { Gives (λ tokens. S.took sink.old tokens sink.new) S.may_refuse (told_leads (leads group.now)) result }
+{
+    match give_front(sink, group) {
+        Ok(_) => give_key(sink, group.key, group.token.start_mark),
+        Err(stop) => Err(stopped(stop)),
+    }
+}
+
+/// Gives all that a group hands out to a sink.
+#[inline(always)]
+pub(crate) fn give_group<S: yaml_token_sink_t>(sink: &mut S, group: group_t) -> Result<(), stop_t>
+    requires { HasWords (token_of group.token).token_data }
+    ensures { Gives (λ tokens. S.took sink.old tokens sink.new) S.may_refuse (group_tokens group) result }
+{
+    match give_leads(sink, &group) {
+        Ok(_) => give(sink, group.token),
+        Err(stop) => Err(stopped(stop)),
+    }
+}
+
+/// Gives all that a group without a key hands out to a sink.
+#[inline(always)]
+fn give_keyless<S: yaml_token_sink_t>(sink: &mut S, group: group_t) -> Result<(), stop_t>
+    requires key { group.key ≡ false }
+    requires words { HasWords (token_of group.token).token_data }
+    ensures { Gives (λ tokens. S.took sink.old tokens sink.new) S.may_refuse (group_tokens group) result }
+{
+    match give_front(sink, &group) {
+        Ok(_) => give(sink, group.token),
+        Err(stop) => Err(stopped(stop)),
+    }
+}
+
+/// 1 if the start of a block collection is handed out, and else 0.
+#[inline]
+fn starts_of(opens: block_t) -> u128
+    ensures { result ≡ starts_of opens }
+{
+    match opens {
+        block_t::NONE => 0,
+        _ => 1,
+    }
+}
+
+/// 1 if a key is handed out, and else 0.
+#[inline]
+fn keys_of(key: bool) -> u128
+    ensures { result ≡ keys_of key }
+{
+    if key { 1 } else { 0 }
+}
+
+/// How many tokens a group hands out.
+#[inline(always)]
+pub(crate) fn count_of(group: &group_t) -> u128
+    ensures { result ≡ length (group_tokens group.now) }
+{
+    group.ends as u128 + starts_of(group.opens) + keys_of(group.key) + 1
+}
+
+/// How many bytes the texts have of what a token says.
+#[inline(always)]
+pub(crate) fn said_len(said: &unnamed_yaml_token_t_data) -> u128
+    ensures { result ≡ said_len (data_of said.now) }
+{
+    match said {
+        unnamed_yaml_token_t_data::SCALAR { value, style: _ }
+        | unnamed_yaml_token_t_data::ANCHOR { value }
+        | unnamed_yaml_token_t_data::ALIAS { value } => value.len() as u128,
+        unnamed_yaml_token_t_data::TAG { handle, suffix } => {
+            handle.len() as u128 + suffix.len() as u128
+        }
+        unnamed_yaml_token_t_data::TAG_DIRECTIVE { handle, prefix } => {
+            handle.len() as u128 + prefix.len() as u128
+        }
+        _ => 0,
+    }
+}
+
+/// Whether a sink has room for the group of a token that has so many bytes of texts, and before which so many block
+/// ends are handed out.
+#[inline(always)]
+pub(crate) fn has_room_for<S: yaml_token_sink_t>(sink: &S, ends: usize, texts: u128) -> bool
+    ensures { result ≡ true → S.within sink.now → (group : group_t) (after : S) → group.ends ≡ ends
+        → said_len (token_of group.token).token_data ≤ texts → S.took sink.now (group_tokens group) after
+        → S.within after }
+{
+    sink.has_room(ends as u128 + 3, texts)
+}
+
+/// How many tokens a group without a key has at most: it hands out so many block ends, and opens that. Most are a token
+/// alone.
+#[inline(always)]
+fn most_without_key(ends: usize, opens: block_t) -> u128
+    ensures { ends + starts_of opens + 1 ≤ result }
+{
+    if ends == 0 && matches!(opens, block_t::NONE) {
+        1
+    } else {
+        ends as u128 + 3
+    }
+}
+
+/// Whether a sink has room for the group of a lexeme that was laid, which hands out no key: so many block ends, and
+/// what it opens, and a token that has so many bytes of texts.
+#[inline(always)]
+pub(crate) fn has_room_for_laid<S: yaml_token_sink_t>(
+    sink: &S,
+    ends: usize,
+    opens: block_t,
+    texts: u128,
+) -> bool
+    ensures { result ≡ true → S.within sink.now → (group : group_t) (after : S) → group.ends ≡ ends
+        → group.opens ≡ opens → group.key ≡ false → said_len (token_of group.token).token_data ≤ texts
+        → S.took sink.now (group_tokens group) after → S.within after }
+{
+    sink.has_room(most_without_key(ends, opens), texts)
+}
+
+/// Whether a sink that takes groups straight has room for that of a lexeme, which may close all levels and whose texts
+/// have so many bytes, and for a token without texts after it.
+#[inline(always)]
+pub(crate) fn has_room_for_both<const DIRECT: bool, S: yaml_token_sink_t>(
+    sink: &S,
+    levels: &[u64],
+    texts: u128,
+) -> bool
+    ensures direct { result ≡ true → DIRECT ≡ true }
+    ensures room { result ≡ true → S.within sink.now → (tokens : List Token) (after : S)
+        → length tokens ≤ length levels.now + 4 → texts_len tokens ≤ texts → S.took sink.now tokens after
+        → S.within after }
+{
+    DIRECT && sink.has_room((levels.len() + 4) as u128, texts)
+}
+
+/// Puts a group into the queue, which has room. It is put together here, so that one that goes straight to a sink is
+/// not put together in memory.
+#[inline(always)]
+fn queue(groups: &mut VecDeque<group_t>, group: group_t)
+    requires { length groups.old.items < deque_capacity groups.old }
+    ensures items { groups.new.items ≡ groups.old.items ++ group ∷ [] }
+    ensures capacity { deque_capacity groups.new ≡ deque_capacity groups.old }
+{
+    let group_t {
+        ends,
+        opens,
+        key,
+        token,
+    } = group;
+    groups.push_back_reserved(group_t {
+        ends,
+        opens,
+        key,
+        token,
+    });
+}
+
+/// Puts a token that is a group alone into the queue, which has room.
+#[inline(always)]
+fn queue_alone(groups: &mut VecDeque<group_t>, token: yaml_token_t)
+    requires { length groups.old.items < deque_capacity groups.old }
+    ensures items { groups.new.items ≡ groups.old.items ++ lone token ∷ [] }
+    ensures capacity { deque_capacity groups.new ≡ deque_capacity groups.old }
+{
+    groups.push_back_reserved(group_t {
+        ends: 0,
+        opens: block_t::NONE,
+        key: false,
+        token,
+    });
+}
+
+/// Hands on the group of a step: straight to the sink if it need not wait, and else into the queue, which has room.
+#[inline(always)]
+pub(crate) fn hand_on<const DIRECT: bool, S: yaml_token_sink_t>(
+    state: &mut state_t,
+    sink: &mut S,
+    waits: bool,
+    group: group_t,
+) -> Result<(), stop_t>
+    requires room { length state.old.layout.queue.groups.items < deque_capacity state.old.layout.queue.groups }
+    requires words { HasWords (token_of group.token).token_data }
+    requires done { state.old.layout.queue.done + 1 < 2 ^ 64 }
+    requires taken { state.old.taken + length (group_tokens group) < 2 ^ 128 }
+    ensures { (text : Text) → IsHandedOn DIRECT waits (scanner_of text state.old) (scanner_of text state.new) group
+        (λ tokens. S.took sink.old tokens sink.new)
+        S.may_refuse result }
+{
+    if !DIRECT || waits {
+        queue(&mut state.layout.queue.groups, group);
+        return Ok(());
+    }
+    let count = count_of(&group);
+    match give_group(sink, group) {
+        Ok(_) => {
+            state.layout.queue.done += 1;
+            state.taken += count;
+            Ok(())
+        }
+        Err(stop) => Err(stopped(stop)),
+    }
+}
+
+/// Hands on the group of a step that hands out no key: straight to the sink if it need not wait, and else into the
+/// queue, which has room.
+#[inline(always)]
+pub(crate) fn hand_keyless<const DIRECT: bool, S: yaml_token_sink_t>(
+    state: &mut state_t,
+    sink: &mut S,
+    waits: bool,
+    group: group_t,
+) -> Result<(), stop_t>
+    requires key { group.key ≡ false }
+    requires room { length state.old.layout.queue.groups.items < deque_capacity state.old.layout.queue.groups }
+    requires words { HasWords (token_of group.token).token_data }
+    requires done { state.old.layout.queue.done + 1 < 2 ^ 64 }
+    requires taken { state.old.taken + length (group_tokens group) < 2 ^ 128 }
+    ensures { (text : Text) → IsHandedOn DIRECT waits (scanner_of text state.old) (scanner_of text state.new) group
+        (λ tokens. S.took sink.old tokens sink.new)
+        S.may_refuse result }
+{
+    if !DIRECT || waits {
+        queue(&mut state.layout.queue.groups, group);
+        return Ok(());
+    }
+    let count = count_of(&group);
+    match give_keyless(sink, group) {
+        Ok(_) => {
+            state.layout.queue.done += 1;
+            state.taken += count;
+            Ok(())
+        }
+        Err(stop) => Err(stopped(stop)),
+    }
+}
+
+/// Hands on the group of a step that is a token alone: straight to the sink if it need not wait, and else into the
+/// queue, which has room.
+#[inline(always)]
+pub(crate) fn hand_token<const DIRECT: bool, S: yaml_token_sink_t>(
+    state: &mut state_t,
+    sink: &mut S,
+    waits: bool,
+    token: yaml_token_t,
+) -> Result<(), stop_t>
+    requires room { length state.old.layout.queue.groups.items < deque_capacity state.old.layout.queue.groups }
+    requires words { HasWords (token_of token).token_data }
+    requires done { state.old.layout.queue.done + 1 < 2 ^ 64 }
+    requires taken { state.old.taken + length (group_tokens (lone token)) < 2 ^ 128 }
+    ensures { (text : Text) → IsHandedOn DIRECT waits (scanner_of text state.old) (scanner_of text state.new)
+        (lone token) (λ tokens. S.took sink.old tokens sink.new)
+        S.may_refuse result }
+{
+    if !DIRECT || waits {
+        queue_alone(&mut state.layout.queue.groups, token);
+        return Ok(());
+    }
+    match give(sink, token) {
+        Ok(_) => {
+            state.layout.queue.done += 1;
+            state.taken += 1;
+            Ok(())
+        }
+        Err(stop) => Err(stopped(stop)),
     }
 }

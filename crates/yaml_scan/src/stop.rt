@@ -1,29 +1,125 @@
-//! Why a step stops. These functions are cold, and find again what the step has tested.
-ghost use Rattle.std.specs.Prelude.{Bool, List, ◌≡◌, not, true, Some, None, Err};
-ghost use Rattle.std.specs.Option.{is_some};
+//! Why a step stops: memory was refused, there is a fault, or the sink refused a token. The functions that make a step
+//! stop are cold, and find again what it has tested.
+ghost use Rattle.std.specs.Prelude.{◌≡◌, Bool, List, not, true, Some, None, Err};
+ghost use Rattle.std.specs.Option.{option_copied, is_some};
+ghost use Rattle.yaml_text.specs.Fault.{fault_of, memory_fault, scanner_fault, Fault};
 ghost use Rattle.yaml_text.specs.Decoding.{refusal_seen};
-ghost use Rattle.yaml_text.specs.Fault.{Fault, fault_of, scanner_fault};
 ghost use Rattle.yaml_lexeme.specs.Lexeme.{Lexeme as yaml_lexeme_t};
 ghost use Rattle.yaml_lexeme.specs.Counted.{IsMarkOf};
-ghost use Rattle.yaml_scan.specs.declared.met.step_t.{step_t};
+ghost use Rattle.yaml_scan.specs.declared.stop.stop_t.TheVariants.{MEMORY, SINK};
+ghost use Rattle.yaml_scan.specs.inside.Stop.{fault_at};
+ghost use Rattle.yaml_scan.specs.declared.kind.step_t.{step_t};
 ghost use Rattle.yaml_scan.specs.Laid.{Laid};
 ghost use Rattle.yaml_scan.specs.SourceOf.{source_of};
 ghost use Rattle.yaml_scan.specs.Step.{front_of, no_colon, in_simple_key};
 ghost use Rattle.yaml_scan.specs.inside.Slots.{lost_held, root_of};
 ghost use Rattle.yaml_scan.specs.inside.Scanner.{scanner_of};
-ghost use Rattle.yaml_scan.specs.inside.Scanning.{CanRead, CanStep, Comes, Ends, StopsAfter, IsReadIn, Offends};
-ghost use Rattle.yaml_scan.specs.inside.Scanning.{Passes, Refuses};
-ghost use Rattle.yaml_scan.specs.inside.Scanning.{allowed_in, cleared_in, refused_in};
+ghost use Rattle.yaml_scan.specs.inside.Scanning.{CanRead, CanStep, Comes, Ends, StopsAfter, IsReadIn, Offends, Passes};
+ghost use Rattle.yaml_scan.specs.inside.Scanning.{Refuses, allowed_in, cleared_in, refused_in};
 
 use crate::allowed::is_key_allowed;
-use crate::fault::{make_scanner_fault, stop_t};
+use crate::depth::candidate_t;
 use crate::keys::{lost_at, root};
 use crate::kind::start_after;
-use crate::look::{cleared_by, refused_by, root_after, step_of};
-use crate::slots::candidate_t;
-use crate::state::state_t;
+use crate::scanner::{cleared_by, refused_by, root_after, state_t, step_of};
+use std::alloc::AllocError;
 use yaml_lexeme::{yaml_lexeme_fault, yaml_lexeme_kind_t, yaml_refusal_t};
-use yaml_text::{yaml_fault_t, yaml_mark_t, yaml_text_t};
+use yaml_text::{yaml_error_type_t, yaml_fault_t, yaml_mark_t, yaml_text_t};
+
+const ZERO: yaml_mark_t = yaml_mark_t {
+    index: 0,
+    line: 0,
+    column: 0,
+};
+
+/// A fault of which only the kind is set.
+fn make_bare_fault(error: yaml_error_type_t) -> yaml_fault_t
+    ensures { fault_of result ≡ record memory_fault { error = error } }
+{
+    yaml_fault_t {
+        error,
+        problem: None,
+        problem_offset: 0,
+        problem_value: 0,
+        problem_mark: ZERO,
+        context: None,
+        context_mark: ZERO,
+    }
+}
+
+/// The fault of a refused request for memory.
+pub(crate) fn make_memory_fault() -> yaml_fault_t
+    ensures { fault_of result ≡ memory_fault }
+{
+    make_bare_fault(yaml_error_type_t::YAML_MEMORY_ERROR)
+}
+
+/// A problem at a mark, with a context at another.
+pub(crate) fn make_scanner_fault(
+    problem: &'static str,
+    problem_mark: yaml_mark_t,
+    context: Option<&'static str>,
+    context_mark: yaml_mark_t,
+) -> yaml_fault_t
+    ensures { fault_of result ≡ scanner_fault problem.now problem_mark (option_copied context.entry) context_mark }
+{
+    yaml_fault_t {
+        error: yaml_error_type_t::YAML_SCANNER_ERROR,
+        problem: Some(problem),
+        problem_offset: 0,
+        problem_value: 0,
+        problem_mark,
+        context,
+        context_mark,
+    }
+}
+
+/// Why a step stopped: memory was refused, or there is a fault, which was kept, or the sink refused a token.
+#[derive(Clone, Copy)]
+pub(crate) enum stop_t {
+    MEMORY,
+    FAULT,
+    SINK,
+}
+
+impl From<AllocError> for stop_t {
+    ghost from_gives = { λ _ stop. stop ≡ MEMORY };
+
+    #[cold]
+    fn from(_error: AllocError) -> stop_t {
+        stop_t::MEMORY
+    }
+}
+
+/// The stop of a sink that refused a token.
+#[cold]
+pub(crate) fn stop_by_sink() -> stop_t
+    ensures { result ≡ SINK }
+{
+    stop_t::SINK
+}
+
+/// The same stop. It is cold, so that the compiler takes no stop for likely.
+#[cold]
+pub(crate) fn stopped(stop: stop_t) -> stop_t
+    ensures { result ≡ stop }
+{
+    stop
+}
+
+/// The fault of a stop, if that is not by the sink.
+pub(crate) fn fault_at(stop: stop_t, kept: &Option<yaml_fault_t>) -> yaml_fault_t
+    ensures { fault_of result ≡ fault_at stop kept.now }
+{
+    match stop {
+        stop_t::MEMORY => make_memory_fault(),
+        stop_t::FAULT => match kept {
+            Some(fault) => *fault,
+            None => make_bare_fault(yaml_error_type_t::YAML_NO_ERROR),
+        },
+        stop_t::SINK => make_bare_fault(yaml_error_type_t::YAML_NO_ERROR),
+    }
+}
 
 /// A fault of the scanner, or the reader's if that is near it.
 fn nearest(_text: &yaml_text_t, state: &state_t, fault: yaml_fault_t) -> yaml_fault_t

@@ -8,8 +8,8 @@ use Rattle.yaml_text.specs.declared.types.yaml_encoding_t.{yaml_encoding_t}
 use Rattle.yaml_text.specs.Fault.{Fault, memory_fault}
 use Rattle.yaml_text.specs.Text.{Text}
 use Rattle.yaml_scan.specs.Course.{oldest, ended, Course, Input, course}
-use Rattle.yaml_scan.specs.declared.fault.stop_t.{stop_t}
-use Rattle.yaml_scan.specs.declared.fault.stop_t.TheVariants.{SINK}
+use Rattle.yaml_scan.specs.declared.stop.stop_t.{stop_t}
+use Rattle.yaml_scan.specs.declared.stop.stop_t.TheVariants.{SINK}
 use Rattle.yaml_scan.specs.inside.Scanner.{Scanner}
 use Rattle.yaml_scan.specs.All.{AllOf, AreSettled, ReadsAll}
 use Rattle.yaml_scan.specs.Answers.{answers}

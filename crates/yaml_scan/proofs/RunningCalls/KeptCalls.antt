@@ -10,12 +10,12 @@ use Rattle.yaml_text.specs.Token.{token_of}
 use Rattle.yaml_text.specs.declared.fault.yaml_fault_t.{yaml_fault_t}
 use Rattle.yaml_text.specs.declared.token.yaml_token_t.{yaml_token_t as code_token_t}
 use Rattle.yaml_text.specs.declared.types.yaml_encoding_t.{yaml_encoding_t}
-use Rattle.yaml_scan.specs.declared.fault.stop_t.{stop_t}
+use Rattle.yaml_scan.specs.declared.stop.stop_t.{stop_t}
 use Rattle.yaml_scan.specs.declared.groups.group_t.{group_t}
 use Rattle.yaml_scan.specs.declared.kept.yaml_kept_parser_t.{yaml_kept_parser_t}
 use Rattle.yaml_scan.specs.declared.parser.yaml_parser_t.TheInside.{Inside}
 use Rattle.yaml_scan.specs.declared.session.session_t.{session_t}
-use Rattle.yaml_scan.specs.declared.state.state_t.{state_t}
+use Rattle.yaml_scan.specs.declared.scanner.state_t.{state_t}
 use Rattle.yaml_scan.specs.Decoded.{decoded_input}
 use Rattle.yaml_scan.specs.Headline.{Calls}
 use Rattle.yaml_scan.specs.KeptCalls.{ComesFirst, GivesMore, GivesToFault, token_peeked}

@@ -13,7 +13,7 @@ use Rattle.yaml_scan.specs.inside.Scanning.{Settles, Fails, Stops, Same, course_
 use Rattle.yaml_scan.specs.inside.Ready.{IsNew, IsReady, Begins, IsStarted, IsSettled, IsStopped, IsEnded, course_in}
 use Rattle.yaml_scan.specs.Token.{yaml_token_t}
 use Rattle.std.specs.Prelude.{Result, Ok, Err}
-use Rattle.yaml_scan.specs.declared.fault.stop_t.{stop_t}
+use Rattle.yaml_scan.specs.declared.stop.stop_t.{stop_t}
 use Rattle.yaml_scan.specs.inside.Sent.{HasSent, HasSentOrSettled, Sends, SendsOrSettles}
 use Rattle.yaml_scan.specs.inside.Stop.{fault_at}
 use Rattle.yaml_scan.proofs.RunningCalls.GivenTokens.{taken_is}

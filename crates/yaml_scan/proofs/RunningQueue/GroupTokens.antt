@@ -8,7 +8,7 @@ use Rattle.yaml_text.specs.declared.types.yaml_encoding_t.TheVariants.{YAML_UTF8
 use Rattle.yaml_text.specs.declared.types.yaml_mark_t.{yaml_mark_t}
 use Rattle.yaml_text.specs.Token.{token_of}
 use Rattle.yaml_text.specs.Token.{TokenData as says}
-use Rattle.yaml_scan.specs.declared.fault.stop_t.{stop_t}
+use Rattle.yaml_scan.specs.declared.stop.stop_t.{stop_t}
 use Rattle.yaml_scan.specs.declared.groups.block_t.{block_t}
 use Rattle.yaml_scan.specs.declared.groups.block_t.TheVariants.{NONE, SEQUENCE, MAPPING}
 use Rattle.yaml_scan.specs.declared.groups.group_t.{group_t}

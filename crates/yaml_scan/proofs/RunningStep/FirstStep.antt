@@ -12,7 +12,7 @@ use Rattle.yaml_text.specs.Decoding.{refusal_seen}
 use Rattle.yaml_lexeme.specs.Place.{skip}
 use Rattle.yaml_lexeme.specs.Counted.{IsMarkOf}
 use Rattle.yaml_scan.specs.Course.{oldest, course}
-use Rattle.yaml_scan.specs.declared.state.state_t.{state_t}
+use Rattle.yaml_scan.specs.declared.scanner.state_t.{state_t}
 use Rattle.yaml_scan.specs.inside.Scanner.{Scanner, scanner_of}
 use Rattle.yaml_scan.specs.SourceOf.{source_of}
 use Rattle.yaml_scan.specs.Laid.{Laid, reach}

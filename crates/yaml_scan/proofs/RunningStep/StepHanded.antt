@@ -9,8 +9,8 @@ use Rattle.yaml_text.specs.declared.types.yaml_mark_t.{yaml_mark_t}
 use Rattle.yaml_text.specs.declared.token.yaml_token_t.{yaml_token_t as code_token_t}
 use Rattle.yaml_text.specs.Token.{token_of}
 use Rattle.yaml_scan.specs.Course.{ended}
-use Rattle.yaml_scan.specs.declared.fault.stop_t.{stop_t}
-use Rattle.yaml_scan.specs.declared.fault.stop_t.TheVariants.{SINK}
+use Rattle.yaml_scan.specs.declared.stop.stop_t.{stop_t}
+use Rattle.yaml_scan.specs.declared.stop.stop_t.TheVariants.{SINK}
 use Rattle.yaml_scan.specs.declared.groups.group_t.{group_t}
 use Rattle.yaml_scan.specs.declared.groups.queue_t.{queue_t}
 use Rattle.yaml_scan.specs.inside.Scanner.{Scanner}
@@ -27,7 +27,7 @@ use Rattle.yaml_scan.specs.Step.{front_of}
 use Rattle.yaml_scan.specs.inside.TextReads.{IsDecider, IsRead}
 use Rattle.yaml_scan.proofs.RunningStep.DecidedLaid.{read_place}
 use Rattle.yaml_lexeme.specs.Lexeme.{Lexeme as yaml_lexeme_t}
-use Rattle.yaml_scan.specs.declared.met.step_t.{step_t}
+use Rattle.yaml_scan.specs.declared.kind.step_t.{step_t}
 use Rattle.yaml_scan.proofs.SessionCalls.AnswerWords.{read_has_words}
 use Rattle.yaml_scan.proofs.Texts.LexemeReads.{decider_silent, read_says}
 use Rattle.yaml_scan.specs.inside.Handed.{AllSettled, Empties, HandsOut, IsCut, IsHanded, IsHandedOn, IsLaidAlone, IsLaidAs, IsLaidBoth, IsPushed, LaysTo, WasLaidWith, group_tokens, groups_tokens, is_end, keys_of, lone, made_by, one_done, set_queue, starts_of, told_leads, with_queue}

@@ -9,7 +9,7 @@ use Rattle.yaml_text.specs.Decoding.{refusal_seen}
 use Rattle.yaml_lexeme.specs.Lexeme.{Lexeme as yaml_lexeme_t}
 use Rattle.yaml_lexeme.specs.Counted.{IsMarkOf}
 use Rattle.yaml_scan.specs.Step.{no_colon, no_token, in_next_token, in_simple_key}
-use Rattle.yaml_scan.specs.declared.met.step_t.{step_t}
+use Rattle.yaml_scan.specs.declared.kind.step_t.{step_t}
 use Rattle.yaml_scan.specs.inside.Scanner.{Scanner}
 use Rattle.yaml_scan.specs.Kind.{Kind}
 use Rattle.yaml_scan.specs.Laid.{Laid, Lexeme}

@@ -12,8 +12,8 @@ use Rattle.yaml_lexeme.specs.Decider.{one_on}
 use Rattle.yaml_scan.specs.Course.{ended}
 use Rattle.yaml_scan.specs.declared.groups.block_t.TheVariants.{NONE}
 use Rattle.yaml_scan.specs.declared.groups.group_t.{group_t}
-use Rattle.yaml_scan.specs.declared.slots.slots_t.{slots_t}
-use Rattle.yaml_scan.specs.declared.met.step_t.{step_t}
+use Rattle.yaml_scan.specs.declared.depth.slots_t.{slots_t}
+use Rattle.yaml_scan.specs.declared.kind.step_t.{step_t}
 use Rattle.yaml_scan.specs.inside.Scanner.{Scanner}
 use Rattle.yaml_scan.specs.Allowed.{allowed_after, allows}
 use Rattle.yaml_scan.specs.Depth.{depth}

@@ -21,11 +21,11 @@ use Rattle.yaml_lexeme.specs.declared.problem.yaml_refusal_t.{yaml_refusal_t}
 use Rattle.yaml_lexeme.specs.declared.problem.yaml_refusal_t.TheVariants.{MEMORY}
 use Rattle.yaml_scan.specs.inside.StepParts.{read_step}
 use Rattle.yaml_scan.specs.Course.{ended, oldest, Input, Course, course, next}
-use Rattle.yaml_scan.specs.declared.fault.stop_t.{stop_t}
+use Rattle.yaml_scan.specs.declared.stop.stop_t.{stop_t}
 use Rattle.yaml_scan.specs.declared.groups.group_t.{group_t}
-use Rattle.yaml_scan.specs.declared.met.step_t.{step_t}
+use Rattle.yaml_scan.specs.declared.kind.step_t.{step_t}
 use Rattle.yaml_scan.specs.inside.Scanner.{Scanner}
-use Rattle.yaml_scan.specs.declared.slots.slots_t.{slots_t}
+use Rattle.yaml_scan.specs.declared.depth.slots_t.{slots_t}
 use Rattle.yaml_scan.specs.Kind.{Kind, is_candidate_kind, is_flow_start}
 use Rattle.yaml_scan.specs.Source.{Source, Offence}
 use Rattle.yaml_scan.specs.SourceOf.{source_of}

@@ -3,8 +3,8 @@ use Rattle.std.specs.Prelude.{Option, None, Some}
 use Rattle.yaml_text.specs.declared.fault.yaml_fault_t.{yaml_fault_t}
 use Rattle.yaml_text.specs.declared.types.yaml_error_type_t.TheVariants.{YAML_NO_ERROR}
 use Rattle.yaml_text.specs.Fault.{Fault, fault_of, memory_fault}
-use Rattle.yaml_scan.specs.declared.fault.stop_t.{stop_t}
-use Rattle.yaml_scan.specs.declared.fault.stop_t.TheVariants.{MEMORY, FAULT, SINK}
+use Rattle.yaml_scan.specs.declared.stop.stop_t.{stop_t}
+use Rattle.yaml_scan.specs.declared.stop.stop_t.TheVariants.{MEMORY, FAULT, SINK}
 
 -- no fault of a step
 abbrev pub no_fault : Fault

@@ -1,7 +1,7 @@
 use Rattle.std.proofs.Common.{Result, Ok, Err, inl, inr}
 use Rattle.std.proofs.lemmas.Result.{err_from_is_err_and}
 use Rattle.std.specs.Prelude.{MatchResult}
-use Rattle.yaml_scan.specs.declared.fault.stop_t.{stop_t}
+use Rattle.yaml_scan.specs.declared.stop.stop_t.{stop_t}
 use Rattle.yaml_scan.specs.inside.Scanner.{scanner_of}
 use Rattle.yaml_scan.proofs.RunningCalls.ToNextToken.{settled_in, stopped_in, ended_in, begun_is}
 use Rattle.yaml_scan.proofs.RunningCalls.CallAnswers.{shown_settled}

@@ -1,0 +1,201 @@
+//! The state of a running scanner, and what a step asks of it before and after it reads its lexeme. The text that it
+//! scans is given beside it, also where only a contract speaks of it.
+ghost use Rattle.std.specs.Prelude.{◌≡◌, ◌+◌, ◌<◌, ◌^◌, ◌&&◌, not, if◌then◌else◌, nat_lt, None, reverse, vec_len};
+ghost use Rattle.std.specs.Option.{is_some, option_copied};
+ghost use Rattle.yaml_text.specs.Text.{Text};
+ghost use Rattle.yaml_scan.specs.Falling.{IsFalling};
+ghost use Rattle.yaml_scan.specs.inside.Scanner.{scanner_of};
+ghost use Rattle.yaml_scan.specs.inside.Scanning.{IsNewHeld, cleared_in, met_in, refused_in};
+ghost use Rattle.yaml_scan.specs.inside.Slots.{is_level, root_of, slot_after};
+
+use crate::depth::{candidate_t, slots_t};
+use crate::groups::queue_t;
+use crate::keys::{completed_by, needed_at, root_at, settle};
+use crate::kind::{is_candidate, is_colon, problem, start_after, step_t};
+use crate::levels::{is_level, layout_t, level_at};
+use std::alloc::Global;
+use std::collections::VecDeque;
+use std::mem::replace;
+use yaml_lexeme::{yaml_context_t, yaml_lexeme_kind_t};
+use yaml_text::{yaml_fault_t, yaml_mark_t};
+
+/// The state of a running scanner.
+#[derive(Drop)]
+pub(crate) struct state_t {
+    pub alloc: Global,
+    /// The reader's fault after the text, if that is the front of a refused input. Once a step has stopped for a fault,
+    /// or the session has ended with one, it is that fault.
+    pub fault: Option<yaml_fault_t>,
+    /// The index from which on a step is near the end of the text of a refused input. For another input it is greater
+    /// than all indexes.
+    pub near: u64,
+    pub limit: u64,
+    pub slots: slots_t,
+    /// Whether a key is allowed after the last lexeme.
+    pub allowed: bool,
+    pub layout: layout_t,
+    /// How far the last good step was read.
+    pub reach: yaml_mark_t,
+    /// The end of the gap after that, in a step.
+    pub front: yaml_mark_t,
+    /// Where a lexeme stops a step.
+    pub there: yaml_mark_t,
+    /// How many tokens were taken.
+    pub taken: u128,
+    /// How many steps were made.
+    pub made: u64,
+}
+
+/// No candidates.
+#[inline(always)]
+fn no_slots(alloc: Global) -> slots_t {
+    slots_t {
+        outer: Vec::new(alloc),
+        not_simple_keys: 0,
+        top: None,
+        awaited: 0,
+    }
+}
+
+/// No levels, and an empty queue.
+#[inline(always)]
+fn no_layout(alloc: Global, mark: yaml_mark_t) -> layout_t {
+    layout_t {
+        levels: Vec::new(alloc),
+        queue: queue_t {
+            groups: VecDeque::new(alloc),
+            done: 0,
+            early: 0,
+            front: mark,
+        },
+    }
+}
+
+impl state_t {
+    /// Takes the state out. What is left here has no candidates, no levels and no groups. Each field is moved to where
+    /// the result goes, so that the state is not moved twice.
+    #[inline(always)]
+    pub(crate) fn take(&mut self, alloc: Global) -> state_t
+        ensures { result ≡ self.old }
+    {
+        let reach = self.reach;
+        state_t {
+            alloc: self.alloc,
+            fault: self.fault,
+            near: self.near,
+            limit: self.limit,
+            slots: replace(&mut self.slots, no_slots(alloc)),
+            allowed: self.allowed,
+            layout: replace(&mut self.layout, no_layout(alloc, reach)),
+            reach,
+            front: self.front,
+            there: self.there,
+            taken: self.taken,
+            made: self.made,
+        }
+    }
+}
+
+/// What is wrong with a kind after the gap, if it needs an allowed key and none is allowed.
+#[inline(always)]
+pub(crate) fn refused_by(
+    state: &state_t,
+    in_flow: bool,
+    kind: yaml_lexeme_kind_t,
+    allowed: bool,
+) -> Option<&'static str>
+    ensures { (text : Text) → option_copied result ≡ refused_in (scanner_of text state.now) in_flow kind allowed }
+{
+    if in_flow || allowed {
+        return None;
+    }
+    let completed = completed_by(kind, state.slots.top, state.limit, state.front);
+    problem(kind, completed.is_none())
+}
+
+/// The required candidate that a lexeme of a kind after the gap would clear or replace.
+#[inline(always)]
+pub(crate) fn cleared_by(
+    state: &state_t,
+    in_flow: bool,
+    kind: yaml_lexeme_kind_t,
+    allowed: bool,
+) -> Option<candidate_t>
+    ensures { (text : Text) → result ≡ cleared_in (scanner_of text state.now) in_flow kind allowed }
+{
+    if !is_colon(kind) && (!is_candidate(kind) || allowed) && !in_flow {
+        needed_at(state.slots.top, state.limit, state.front)
+    } else {
+        None
+    }
+}
+
+/// The flow depth. `in_flow`: it is above 0. Written so, the compiler knows whether it is if it knows `in_flow`.
+#[inline(always)]
+fn depth_at(slots: &slots_t, in_flow: bool) -> u64
+    requires { in_flow ≡ nat_lt 0 (vec_len slots.now.outer) }
+    ensures { result ≡ vec_len slots.now.outer }
+{
+    if in_flow {
+        slots.outer.len().max(1) as u64
+    } else {
+        0
+    }
+}
+
+/// What is kept of a lexeme of this step that starts at a mark, if it is a candidate.
+#[inline(always)]
+fn new_candidate(step: u64, start: yaml_mark_t, in_flow: bool, level: Option<u64>) -> candidate_t
+    ensures { result ≡ record { step = step; start = start; required = is_level in_flow level start.column } }
+{
+    candidate_t {
+        step,
+        start,
+        required: is_level(in_flow, level, start.column),
+    }
+}
+
+/// What a lexeme of a kind after the gap is read and laid with.
+#[inline(always)]
+pub(crate) fn step_of(
+    state: &state_t,
+    in_flow: bool,
+    kind: yaml_lexeme_kind_t,
+    allowed: bool,
+) -> step_t
+    requires flow { in_flow ≡ nat_lt 0 (vec_len state.now.slots.outer) }
+    requires falls { IsFalling (reverse state.now.layout.levels.items) }
+    requires line { state.now.front.line + 1 < 2 ^ 64 }
+    requires made { state.now.made + 1 < 2 ^ 64 }
+    ensures kind { result.kind ≡ kind }
+    ensures flow { result.in_flow ≡ in_flow }
+    ensures allowed { result.allowed ≡ allowed }
+    ensures new { (text : Text) → IsNewHeld (scanner_of text state.now)
+        (met_in (scanner_of text state.now) result) result.in_flow result.context.level result.new }
+    ensures depth { result.context.depth ≡ vec_len state.now.slots.outer }
+{
+    let start = start_after(kind, state.front);
+    let level = level_at(&state.layout.levels, in_flow, kind, start);
+    step_t {
+        kind,
+        in_flow,
+        allowed,
+        new: new_candidate(state.made + 1, start, in_flow, level),
+        context: yaml_context_t {
+            depth: depth_at(&state.slots, in_flow),
+            level,
+        },
+    }
+}
+
+/// The candidate of depth 0 after the lexeme of a step.
+#[inline(always)]
+pub(crate) fn root_after(state: &state_t, step: step_t) -> Option<candidate_t>
+    requires { step.in_flow ≡ nat_lt 0 (vec_len state.now.slots.outer) }
+    ensures { result ≡ root_of state.now.slots.outer.items
+        (slot_after step.kind step.allowed step.new state.now.slots.top) }
+{
+    let mut top = state.slots.top;
+    settle(&mut top, step.kind, step.allowed, step.new);
+    root_at(&state.slots.outer, top, step.in_flow)
+}
