@@ -70,9 +70,9 @@ pub(crate) fn nest(slots: &mut slots_t, kind: yaml_lexeme_kind_t)
         slots.outer.push_reserved(slots.top);
         slots.top = None;
     } else if is_flow_end(kind) {
-        match slots.outer.pop() {
-            None => {}
-            Some(held) => slots.top = held,
+        if let Some(held) = slots.outer.last() {
+            slots.top = *held;
         }
+        slots.outer.pop();
     }
 }
