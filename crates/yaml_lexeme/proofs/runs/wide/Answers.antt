@@ -1,5 +1,4 @@
 use Rattle.std.proofs.Common.{arith}
-use Rattle.std.proofs.lemmas.Simd.{zip2_splat}
 use Rattle.yaml_lexeme.specs.inside.Runs.{is_wide}
 use Rattle.yaml_text.proofs.ManyBytes.VectorLanes.{at_most, from_splat, masked}
 use Rattle.yaml_lexeme.proofs.runs.wide.Goals as goal

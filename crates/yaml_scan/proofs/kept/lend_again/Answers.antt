@@ -1,9 +1,8 @@
-use Rattle.std.proofs.Common.{◌≡◌, ◌<◌, List, ℕ, Option, Some, None, IfSome, ap, sym, ◌∙◌, subst, arith}
+use Rattle.std.proofs.Common.{◌<◌, List, ℕ, Option, Some, None, IfSome, ap, sym, ◌∙◌, subst, arith}
 use Rattle.yaml_text.specs.Kept.{IsKeptOf, KeptText}
 use Rattle.yaml_text.specs.Text.{Text}
 use Rattle.yaml_scan.specs.Parser.{Parser}
 use Rattle.yaml_scan.specs.declared.kept.yaml_kept_parser_t.{yaml_kept_parser_t}
-use Rattle.yaml_scan.specs.inside.KeptParts.{HasBegun}
 use Rattle.yaml_scan.proofs.RunningCalls.KeptCalls.{begun_before}
 use Rattle.yaml_scan.proofs.kept.lend_again.Goals as goal
 

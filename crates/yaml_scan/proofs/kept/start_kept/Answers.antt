@@ -1,11 +1,9 @@
 use Rattle.std.proofs.Common.{◌<◌, List, ℕ, ap, sym, ◌∙◌, refl, subst, arith}
-use Rattle.std.proofs.Common.{inl}
-use Rattle.std.proofs.lemmas.Result.{err_from_is_err_and}
 use Rattle.yaml_text.specs.Kept.{IsKeptOf}
 use Rattle.yaml_scan.specs.inside.KeptEnds.{IsLent}
 use Rattle.yaml_scan.specs.Parser.{Parser}
 use Rattle.yaml_scan.specs.declared.kept.yaml_kept_parser_t.{yaml_kept_parser_t}
-use Rattle.yaml_scan.proofs.RunningCalls.KeptCalls.{begun_before, starts_text, stops_text}
+use Rattle.yaml_scan.proofs.RunningCalls.KeptCalls.{begun_before}
 use Rattle.yaml_scan.proofs.kept.start_kept.Goals as goal
 
 pub returns-then-kept-gt0 : goal.returns-then-kept-gt0

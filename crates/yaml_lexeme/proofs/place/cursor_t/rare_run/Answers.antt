@@ -1,5 +1,4 @@
-use Rattle.std.proofs.Common.{◌∙◌, ap}
-use Rattle.yaml_lexeme.specs.Place.{Place, after_run}
+use Rattle.std.proofs.Common.{◌∙◌}
 use Rattle.yaml_lexeme.specs.inside.Runs.{class_test}
 use Rattle.yaml_lexeme.proofs.Places.CursorMoves.{run_bytes}
 use Rattle.yaml_lexeme.proofs.place.cursor_t.rare_run.Goals as goal
