@@ -248,20 +248,23 @@ fn take_short(cursor: &mut cursor_t, out: &mut Vec<u8>) -> Result<bool, AllocErr
 /// Takes a part of the body and what is kept after it in its line, and appends both to `out`. The flag is false at the
 /// closing quote.
 #[inline(always)]
-fn take_turn(cursor: &mut cursor_t, single: bool, out: &mut Vec<u8>) -> Result<bool, yaml_refusal_t>
+fn take_turn<const SINGLE: bool>(
+    cursor: &mut cursor_t,
+    out: &mut Vec<u8>,
+) -> Result<bool, yaml_refusal_t>
     ensures value { LeavesMore result
-        (with_front out.old.items (spelled (many (spec.body_part single) cursor.old)))
-        (with_front out.new.items (spelled (many (spec.body_part single) cursor.new)))
+        (with_front out.old.items (spelled (many (spec.body_part SINGLE) cursor.old)))
+        (with_front out.new.items (spelled (many (spec.body_part SINGLE) cursor.new)))
         out.new.items cursor.new }
     ensures shorter { IfOk result (λ more. more ≡ true → length cursor.new.rest < length cursor.old.rest) }
 {
-    if !single && take_short(cursor, out)? {
+    if !SINGLE && take_short(cursor, out)? {
         return Ok(true);
     }
-    if !take_part(cursor, single, out)? {
+    if !take_part(cursor, SINGLE, out)? {
         return Ok(false);
     }
-    push_line(cursor, single, out)?;
+    push_line(cursor, SINGLE, out)?;
     Ok(true)
 }
 
@@ -293,15 +296,14 @@ fn push_kept(out: &mut Vec<u8>, single: bool, bytes: &[u8], n: usize) -> Result<
 /// Takes the parts of a quoted scalar after those of its first line, which are in `out`, and its closing quote. The
 /// cursor is a local variable of the caller.
 #[inline(always)]
-fn take_parts(
+fn take_parts<const SINGLE: bool>(
     cursor: &mut cursor_t,
-    single: bool,
     mut out: Vec<u8>,
 ) -> Result<Vec<u8>, yaml_refusal_t>
-    ensures { (p : Place) → LeadsOn single p out.items cursor.old
-        → Gives (λ v. v.items) result cursor.new (spec.quoted single p) }
+    ensures { (p : Place) → LeadsOn SINGLE p out.items cursor.old
+        → Gives (λ v. v.items) result cursor.new (spec.quoted SINGLE p) }
 {
-    'parts: while take_turn(cursor, single, &mut out)? {}
+    'parts: while take_turn::<SINGLE>(cursor, &mut out)? {}
     cursor.advance();
     Ok(out)
 }
@@ -322,7 +324,7 @@ fn take_rest<const SINGLE: bool>(
     let mut here = cursor.again();
     let mut out = emptied(room, len + room_after(cursor, SINGLE))?;
     push_kept(&mut out, SINGLE, left, len)?;
-    let taken = take_parts(&mut here, SINGLE, out);
+    let taken = take_parts::<SINGLE>(&mut here, out);
     *cursor = here;
     taken
 }

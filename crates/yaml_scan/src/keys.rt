@@ -267,19 +267,17 @@ pub(crate) fn move_slots(slots: &mut slots_t, step: step_t, limit: u64, mark: ya
     ensures empty { slots.new.not_simple_keys ≡ empty_slots slots.new.outer.items }
     ensures awaited { slots.new.awaited ≡ step_of (lowest (slots.new.outer.items ++ slots.new.top ∷ [])) }
 {
+    give_up(&mut slots.top, limit, mark);
     if !step.in_flow && !is_flow_start(step.kind) {
-        give_up(&mut slots.top, limit, mark);
         slots.awaited = step_of(slots.top);
         return;
     }
+    let below = give_up_stale(&mut slots.outer, slots.not_simple_keys, limit, mark);
     let empty = if nests(step.kind) {
-        let below = give_up_stale(&mut slots.outer, slots.not_simple_keys, limit, mark);
-        give_up(&mut slots.top, limit, mark);
         nest(slots, step.kind);
         count_empty(&slots.outer, below)
     } else {
-        give_up(&mut slots.top, limit, mark);
-        give_up_stale(&mut slots.outer, slots.not_simple_keys, limit, mark)
+        below
     };
     slots.awaited = step_of(lowest(&slots.outer, empty, slots.top));
     slots.not_simple_keys = empty;
