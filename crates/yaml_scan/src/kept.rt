@@ -296,7 +296,7 @@ fn scan_lent<S: yaml_token_sink_t>(
     ensures within { S.within sink.old → S.within sink.new }
 {
     let text = start_kept(kept, input)?;
-    let given = give_while_room(
+    let given = give_while_room::<true, S>(
         &text,
         &mut kept.state,
         &mut kept.session,
@@ -321,7 +321,7 @@ fn scan_kept<S: yaml_token_sink_t>(
     ensures within { S.within sink.old → S.within sink.new }
 {
     if let Some(text) = lend_again(kept, input) {
-        return give_while_room(
+        return give_while_room::<false, S>(
             &text,
             &mut kept.state,
             &mut kept.session,

@@ -137,9 +137,9 @@ fn give_head<S: yaml_token_sink_t>(
 }
 
 /// Gives the next tokens to a sink, those of a step or the next one alone. If the sink has no room for the texts of
-/// that one, it is shown instead. Returns whether more tokens may go there.
+/// that one, it is shown instead. Returns whether more tokens may go there. `APART`: as in `give_while_room`.
 #[inline(always)]
-fn give_or_show<S: yaml_token_sink_t>(
+fn give_or_show<const APART: bool, S: yaml_token_sink_t>(
     text: &yaml_text_t,
     state: &mut state_t,
     session: &mut session_t,
@@ -167,8 +167,11 @@ fn give_or_show<S: yaml_token_sink_t>(
 }
 
 /// Gives the next tokens to a sink, to the stream end or as long as it has room. There is room for a token at first.
+///
+/// `APART` says nothing of what is done. Each caller has an instance of its own by it, since a build does not inline a
+/// function as large as this in two places.
 #[inline(always)]
-pub(crate) fn give_while_room<S: yaml_token_sink_t>(
+pub(crate) fn give_while_room<const APART: bool, S: yaml_token_sink_t>(
     text: &yaml_text_t,
     state: &mut state_t,
     session: &mut session_t,
@@ -184,7 +187,7 @@ pub(crate) fn give_while_room<S: yaml_token_sink_t>(
 {
     let mut more = true;
     'tokens: while more {
-        more = give_or_show(text, state, session, lead, sink)?;
+        more = give_or_show::<APART, S>(text, state, session, lead, sink)?;
     }
     Ok(())
 }
