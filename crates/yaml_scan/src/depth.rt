@@ -1,6 +1,6 @@
 //! Flow depth: how many flow collections are open (YAML 1.1, chapter 10, Collection Styles), and the slot of each
 //! depth, which keeps its candidate for a key.
-ghost use Rattle.std.specs.Prelude.{◌≡◌, ◌<◌, ◌||◌, true, vec_len};
+ghost use Rattle.std.specs.Prelude.{◌++◌, ◌∷◌, [], None, ◌≡◌, ◌<◌, ◌||◌, true, vec_len};
 ghost use Rattle.std.specs.Vec.{vec_capacity};
 ghost use Rattle.yaml_scan.specs.inside.Slots.{nested_outer, nested_top};
 ghost use Rattle.yaml_scan.specs.Kind as kinds;
@@ -57,6 +57,19 @@ pub(crate) fn nests(kind: yaml_lexeme_kind_t) -> bool
     is_flow_start(kind) || is_flow_end(kind)
 }
 
+/// Enters a depth, for which there is room.
+#[inline(always)]
+fn enter(slots: &mut slots_t)
+    requires { vec_len slots.old.outer < vec_capacity slots.old.outer }
+    ensures outer { slots.new.outer.items ≡ slots.old.outer.items ++ slots.old.top ∷ [] }
+    ensures top { slots.new.top ≡ None }
+    ensures empty { slots.new.not_simple_keys ≡ slots.old.not_simple_keys }
+    ensures awaited { slots.new.awaited ≡ slots.old.awaited }
+{
+    let held = std::mem::replace(&mut slots.top, None);
+    slots.outer.push_reserved(held);
+}
+
 /// Enters a depth at a flow start, for which there is room, and leaves one at a flow end.
 #[inline(always)]
 pub(crate) fn nest(slots: &mut slots_t, kind: yaml_lexeme_kind_t)
@@ -67,8 +80,7 @@ pub(crate) fn nest(slots: &mut slots_t, kind: yaml_lexeme_kind_t)
     ensures awaited { slots.new.awaited ≡ slots.old.awaited }
 {
     if is_flow_start(kind) {
-        slots.outer.push_reserved(slots.top);
-        slots.top = None;
+        enter(slots);
     } else if is_flow_end(kind) {
         if let Some(held) = slots.outer.last() {
             slots.top = *held;
