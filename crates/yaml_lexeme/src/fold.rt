@@ -29,8 +29,8 @@ pub(crate) fn push_front(out: &mut Vec<u8>, bytes: &[u8], n: usize) -> Result<()
     Ok(())
 }
 
-/// Appends a byte and the `n` bytes after the first of others to `out`. If there are some, a stage of bytes is copied
-/// as one, from the first on; that one is set to the byte, and what is too much is cut off.
+/// Appends a byte to `out`, and then `n` of `bytes`, from the second on. If `n` is not 0, sixteen bytes are copied as
+/// one. The first of them is then set to the byte, and what is too much is cut off.
 #[inline(always)]
 pub(crate) fn push_behind(
     out: &mut Vec<u8>,
@@ -139,7 +139,7 @@ pub(crate) fn push_char(out: &mut Vec<u8>, c: char) -> Result<(), AllocError>
     push_wide(out, c)
 }
 
-/// Appends a character and the first `n` bytes to `out`, in any case.
+/// Appends a character of any width, and then the first `n` bytes, to `out`.
 #[cold]
 #[inline(never)]
 fn push_both(out: &mut Vec<u8>, c: char, bytes: &[u8], n: usize) -> Result<(), AllocError>
@@ -153,8 +153,8 @@ fn push_both(out: &mut Vec<u8>, c: char, bytes: &[u8], n: usize) -> Result<(), A
     push_front(out, bytes, n)
 }
 
-/// Appends a character of two bytes and the `n` bytes after the first two of others to `out`. A stage of bytes is
-/// copied as one, and what is too much is cut off.
+/// Appends a character of two bytes to `out`, and then `n` of `bytes`, from the third on. Sixteen bytes are copied as
+/// one, and what is too much is cut off.
 #[inline(always)]
 fn push_two_behind(out: &mut Vec<u8>, c: char, bytes: &[u8], n: usize) -> Result<(), AllocError>
     requires least { 0x80 ≤ c }
@@ -172,7 +172,7 @@ fn push_two_behind(out: &mut Vec<u8>, c: char, bytes: &[u8], n: usize) -> Result
     Ok(())
 }
 
-/// Appends a character and the `n` bytes after the first two of others to `out`.
+/// Appends a character to `out`, and then `n` of `bytes`, from the third on.
 #[inline(always)]
 pub(crate) fn push_char_behind(
     out: &mut Vec<u8>,

@@ -112,7 +112,7 @@ fn code_of(bytes: &[u8], width: usize) -> u32
     }
 }
 
-/// How many bytes a character has that begins with a byte.
+/// How many bytes a character has whose first byte is `b`.
 #[inline(always)]
 fn width_from(b: u8) -> usize
     ensures is { 0 < width_of b → result ≡ width_of b }
@@ -307,8 +307,8 @@ impl<'a> cursor_t<'a> {
         }
     }
 
-    /// Takes a character that is not ASCII or is a carriage return. The room of what a function makes is cleared where
-    /// it begins, so this is a function of its own, which is rarely come to.
+    /// Takes a character that is not ASCII or is a carriage return. A build clears the stack of what a function makes
+    /// at the function's beginning, also where a rare branch alone makes it. So this branch is a function of its own.
     #[inline(always)]
     fn advance_far(&mut self)
         requires { 0 < length self.old.rest }
@@ -455,8 +455,9 @@ impl<'a> cursor_t<'a> {
         here
     }
 
-    /// Takes the run of the class that is here, where that is rare: a function that is called takes it. This one is
-    /// apart from those that ask for it, since the room of what a function makes is cleared where it begins.
+    /// Takes the run of the class that is here, by a call, since that is rare. A build clears the stack of what a
+    /// function makes at the function's beginning, also where a rare branch alone makes it. So this branch is a
+    /// function of its own.
     #[inline(always)]
     fn skip_far(&mut self, class: class_t)
         ensures { self.new ≡ after_run (class_test class) self.old }

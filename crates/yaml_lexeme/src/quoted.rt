@@ -143,7 +143,8 @@ fn line_class(single: bool) -> class_t
     }
 }
 
-/// A piece that is kept unchanged in a line, and after which the cursor is, without the blanks before a break.
+/// A piece that is kept unchanged in a line, without its last blanks if a break comes after it. The cursor is after the
+/// piece.
 #[inline(always)]
 fn unblanked<'a>(cursor: &cursor_t, single: bool, piece: &'a [u8]) -> &'a [u8]
     ensures goes { (p : Place) (out : List ℕ) → IsPiece single p cursor.now piece.now
@@ -268,8 +269,8 @@ fn take_turn<const SINGLE: bool>(
     Ok(true)
 }
 
-/// How many bytes a scalar gets room for after what was taken of it: none if a quote is here. In double quotes it would
-/// be the closing one, and then there is nothing left to take.
+/// How many bytes a scalar gets room for after what was taken of it: none in single quotes if a quote is here, and else
+/// 64. In double quotes a quote here would be the closing one, and then nobody asks.
 #[inline(always)]
 fn room_after(cursor: &cursor_t, single: bool) -> usize
     ensures { result ≤ 64 }
@@ -281,7 +282,8 @@ fn room_after(cursor: &cursor_t, single: bool) -> usize
     }
 }
 
-/// Appends the first `n` bytes to `out`, which has room for no more in single quotes, and else for a stage.
+/// Appends the first `n` bytes to `out`. In double quotes `out` has room for more, so sixteen bytes may be copied as
+/// one.
 #[inline(always)]
 fn push_kept(out: &mut Vec<u8>, single: bool, bytes: &[u8], n: usize) -> Result<(), AllocError>
     requires { n ≤ length bytes.now }
@@ -308,8 +310,8 @@ fn take_parts<const SINGLE: bool>(
     Ok(out)
 }
 
-/// Takes what is left of a quoted scalar after its first line, of which the first `len` bytes are kept. Its value is
-/// put into `room` if it fits.
+/// Takes what is left of a quoted scalar after its first line, of which the first `len` bytes of `left` are kept. Its
+/// value is put into `room` if it fits.
 #[inline(never)]
 fn take_rest<const SINGLE: bool>(
     room: Vec<u8>,
@@ -329,7 +331,8 @@ fn take_rest<const SINGLE: bool>(
     taken
 }
 
-/// The same, but the cursor of the caller stays in registers, since a copy of it is given away.
+/// Takes what is left of a quoted scalar as `take_rest` does, through a copy of the cursor, so that the caller's cursor
+/// stays in registers.
 #[inline(always)]
 fn take_apart<const SINGLE: bool>(
     room: Vec<u8>,

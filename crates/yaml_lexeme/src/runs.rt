@@ -204,7 +204,7 @@ fn part(text: &[u8], from: usize, to: usize) -> &[u8]
     &text[from..to]
 }
 
-/// The lanes that are no ASCII.
+/// The lanes that are not ASCII.
 #[inline(always)]
 fn wide(v: u8x16) -> u64
     ensures { result ≡ mask_l (map spec.is_wide v) }
@@ -223,8 +223,8 @@ fn starts_before(v: u8x16, n: usize) -> usize
     (starts(v) & low).count_ones() as usize
 }
 
-/// How many of a line's first bytes need no closer look, and how many of them begin a character. The flag says that a
-/// byte after them is known to be there.
+/// How many of a line's first bytes need no closer look, and how many of them begin a character. If the
+/// flag is set, a byte comes after them, which may be no ASCII. If not, nothing is said.
 #[inline(always)]
 fn quiet_bytes(class: class_t, text: &[u8]) -> (usize, usize, bool)
     requires { spec.is_line class ≡ true }

@@ -1,14 +1,16 @@
-//! Short pieces in double quotes, of a stage of bytes at most.
+//! Short pieces of a line in double quotes: fewer than sixteen bytes of ASCII, with a quote or a backslash right after
+//! them.
 ghost use Rattle.std.specs.Prelude.{◌≡◌, ◌<◌, ◌≤◌, length, map};
 ghost use Rattle.std.specs.Simd.Lanes.{mask_l};
 ghost use Rattle.yaml_lexeme.specs.inside.ShortRuns as spec;
 
 use std::simd::prelude::*;
 
-/// So many bytes are looked at, and copied, as one.
+/// How many bytes are looked at, and copied, as one: a stage.
 pub(crate) const STAGE: usize = 16;
 
-/// The lanes at which a short piece ends: quotes, backslashes, and all but visible characters of ASCII and spaces.
+/// The lanes at which a short piece ends: double quotes, backslashes, control characters below 20, and bytes that are
+/// not ASCII.
 #[inline(always)]
 fn ends(v: u8x16) -> u64
     ensures { result ≡ mask_l (map spec.ends v) }
@@ -18,7 +20,7 @@ fn ends(v: u8x16) -> u64
             | (v.simd_lt(u8x16::splat(b' ')) | v.simd_gt(u8x16::splat(0x7F))))).to_bitmask()
 }
 
-/// How many bytes a short piece has, if a quote or a backslash ends it within a stage, and else those of a stage.
+/// How many bytes a short piece has, if a quote or a backslash ends it before sixteen. Else 16, and nothing is known.
 #[inline(always)]
 pub(crate) fn short_len(text: &[u8]) -> usize
     ensures most { result ≤ 16 }

@@ -1,5 +1,5 @@
 //! What comes right after a lexeme, and decides whether that is a key, or has to wait with it: two steps that are made
-//! at once, if the next token needs both.
+//! at once, if the next token needs both. It also tells whether the next token waits for a candidate.
 ghost use Rattle.std.specs.Prelude.{ℕ, Bool, ◌≡◌, ◌<◌, ◌≤◌, ◌++◌, ◌∷◌, ◌&&◌, [], List, None, true, false, not, length};
 ghost use Rattle.std.specs.Prelude.{reverse, filter, map, if◌then◌else◌, vec_len, ◌+◌, ◌^◌, Some, nat_eq, slice_get};
 ghost use Rattle.std.specs.Prelude.{IfSome, ◌||◌};
@@ -274,7 +274,7 @@ fn lay_levels(levels: &mut Vec<u64>, step: step_t, key: bool, waits: bool) -> (u
 }
 
 /// Leaves the candidate of the depth behind at what comes right after it, which may be a flow end, and is no flow
-/// start. If both do not wait, it was the only candidate.
+/// start. If they do not wait, it was the only candidate.
 #[inline(always)]
 fn drop_candidate(slots: &mut slots_t, kind: yaml_lexeme_kind_t, waits: bool)
     requires { is_flow_start kind ≡ false }

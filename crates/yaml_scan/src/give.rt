@@ -1,5 +1,4 @@
-//! Tokens given to a sink: the next ones of a parser while the sink has room for them, or all of an input; and all of
-//! them in a list.
+//! Tokens given to a sink: the next few of a parser, or all of an input; and all of an input in a list.
 ghost use Rattle.std.specs.Prelude.{◌≡◌, ◌∷◌, [], List, IfErr, IfOk, true, false, ◌⊎◌, Some, ◌≤◌, ◌<◌, length};
 ghost use Rattle.std.specs.Prelude.{MatchResult, OnErr, option_map, map};
 ghost use Rattle.yaml_text.specs.Fault.{fault_of};

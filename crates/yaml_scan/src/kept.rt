@@ -37,7 +37,7 @@ use yaml_text::{
 #[derive(Drop)]
 pub struct yaml_kept_parser_t {
     setting: yaml_encoding_t,
-    /// What is kept of its text. It is `None` only while the parser is taken.
+    /// What is kept of its text. It is `None` only while the parser is taken, or a call has the text.
     text: Option<yaml_kept_text_t>,
     state: state_t,
     session: session_t,
@@ -176,8 +176,9 @@ impl yaml_kept_parser_t {
     }
 }
 
-/// The text that was kept, which has bytes of its own. They go with it, and nothing is left here. This is a function of
-/// its own, as others here are for what is rare, since the room of what a function makes is cleared where it begins.
+/// The text that was kept, which has bytes of its own. They go with it, and nothing is left here. A build clears
+/// the stack of what a function makes at the function's beginning, also where a rare branch alone makes it. So this
+/// branch is a function of its own, as others here are.
 #[inline(always)]
 fn lend_own<'a>(kept: &mut Option<yaml_kept_text_t>, input: &'a [u8]) -> yaml_text_t<'a>
     requires { (x : Text) × (k : KeptText) × (kept.old ≡ Some k) × IsKeptOf x input.now k }
@@ -281,7 +282,7 @@ fn lend_again<'a>(kept: &yaml_kept_parser_t, input: &'a [u8]) -> Option<yaml_tex
 }
 
 /// Gives the next tokens of a kept parser, as `scan_kept` does, in the first call, or where the text has bytes of its
-/// own. This is called, and apart, so that in all other calls the text needs no care after it.
+/// own. It is called and not inlined, so that the other calls need not give the text back.
 #[cold]
 #[inline(never)]
 fn scan_lent<S: yaml_token_sink_t>(

@@ -202,8 +202,8 @@ pub(crate) fn completed_by(
     }
 }
 
-/// Empties a slot. The room of what a function makes is cleared where it begins, so this is a function of its own,
-/// which is rarely come to.
+/// Empties a slot, which is rare. A build clears the stack of what a function makes at the function's beginning, also
+/// where a rare branch alone makes it. So this branch is a function of its own.
 #[inline(always)]
 fn empty(slot: &mut Option<candidate_t>)
     ensures { slot.new ≡ None }

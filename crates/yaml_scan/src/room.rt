@@ -1,5 +1,5 @@
-//! The next tokens of a scanner, given to a sink as long as it has room for them. A token without room stays in the
-//! queue.
+//! What the calls of a kept parser do: tokens are given to a sink until it has no room, or the next one is shown. A
+//! token without room stays in the queue.
 ghost use Rattle.std.specs.Prelude.{◌≡◌, ◌⊎◌, ◌<◌, ◌-◌, ◌∷◌, [], List, Ok, true, false, length};
 ghost use Rattle.yaml_text.specs.Token.{Token};
 ghost use Rattle.yaml_text.specs.declared.token.yaml_token_t.{yaml_token_t as code_token_t};

@@ -369,7 +369,8 @@ fn queue_alone(groups: &mut VecDeque<group_t>, token: yaml_token_t)
     });
 }
 
-/// Hands on the group of a step: straight to the sink if it need not wait, and else into the queue, which has room.
+/// Hands on the group of a step: straight to the sink if `DIRECT` and it need not wait, and else into the queue, which
+/// has room.
 #[inline(always)]
 pub(crate) fn hand_on<const DIRECT: bool, S: yaml_token_sink_t>(
     state: &mut state_t,
@@ -400,8 +401,8 @@ pub(crate) fn hand_on<const DIRECT: bool, S: yaml_token_sink_t>(
     }
 }
 
-/// Hands on the group of a step that hands out no key: straight to the sink if it need not wait, and else into the
-/// queue, which has room.
+/// Hands on the group of a step that hands out no key: straight to the sink if `DIRECT` and it need not wait, and else
+/// into the queue, which has room.
 #[inline(always)]
 pub(crate) fn hand_keyless<const DIRECT: bool, S: yaml_token_sink_t>(
     state: &mut state_t,
@@ -433,8 +434,8 @@ pub(crate) fn hand_keyless<const DIRECT: bool, S: yaml_token_sink_t>(
     }
 }
 
-/// Hands on the group of a step that is a token alone: straight to the sink if it need not wait, and else into the
-/// queue, which has room.
+/// Hands on the group of a step that is a token alone: straight to the sink if `DIRECT` and it need not wait, and else
+/// into the queue, which has room.
 #[inline(always)]
 pub(crate) fn hand_token<const DIRECT: bool, S: yaml_token_sink_t>(
     state: &mut state_t,
