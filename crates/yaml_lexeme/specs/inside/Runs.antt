@@ -62,7 +62,7 @@ is_quiet class b = not (is_stop class b)
 abbrev pub begins : ℕ → Bool
 begins b = not (b / 64 == 2)
 
--- a byte that is no ASCII
+-- a byte that is not ASCII
 abbrev pub is_wide : ℕ → Bool
 is_wide b = not (b / 128 == 0)
 

@@ -6,11 +6,11 @@ use Rattle.yaml_lexeme.specs.declared.runs.class_t.TheVariants.{DOUBLE}
 use Rattle.yaml_lexeme.specs.Place.{Place, first, run, after_run}
 use Rattle.yaml_lexeme.specs.inside.Runs.{class_test}
 
--- a quote or a backslash
+-- a double quote or a backslash
 abbrev pub is_mark : ℕ → Bool
 is_mark b = b == 0x22 || b == 0x5C
 
--- or a byte that needs a closer look: control characters, and those that are not ASCII
+-- A short piece ends at the byte: at a double quote or a backslash, a control character, or what is not ASCII.
 abbrev pub ends : ℕ → Bool
 ends b = is_mark b || (nat_lt b 0x20 || nat_lt 0x7F b)
 
