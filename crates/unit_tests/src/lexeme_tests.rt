@@ -5,8 +5,8 @@ use std::test::Fail;
 use yaml_lexeme::{
     yaml_context_t, yaml_decider_at, yaml_gap, yaml_lexeme_at, yaml_lexeme_fault, yaml_lexeme_kind,
     yaml_lexeme_kind_t, yaml_lexeme_t, yaml_read_block, yaml_read_character, yaml_read_lexeme,
-    yaml_read_name, yaml_read_plain, yaml_read_quoted, yaml_read_stream_end, yaml_read_tag,
-    yaml_refusal_t, yaml_spot_t,
+    yaml_read_marker, yaml_read_name, yaml_read_plain, yaml_read_quoted, yaml_read_stream_end,
+    yaml_read_tag, yaml_refusal_t, yaml_spot_t,
 };
 use yaml_text::{
     unnamed_yaml_token_t_data, yaml_decode, yaml_encoding_t, yaml_error_type_t, yaml_fault_t,
@@ -296,6 +296,12 @@ fn character_read(alloc: Global, bytes: &[u8], in_flow: bool) -> Result<String, 
         | yaml_lexeme_kind_t::VALUE => {
             show_lexeme(alloc, &yaml_read_character(&text, FRONT, kind))
         }
+        yaml_lexeme_kind_t::DOCUMENT_START => {
+            show_lexeme(alloc, &yaml_read_marker(&text, FRONT, true))
+        }
+        yaml_lexeme_kind_t::DOCUMENT_END => {
+            show_lexeme(alloc, &yaml_read_marker(&text, FRONT, false))
+        }
         _ => Ok(String::from_str(alloc, "no character")?),
     }
 }
@@ -342,7 +348,7 @@ fn expect_rows(
 #[test]
 fn gaps(rt: HostRuntime) -> Result<(), Fail> {
     let alloc = rt.alloc();
-    let gaps: [(&str, bool, bool, &str); 9] = [
+    let gaps: [(&str, bool, bool, &str); 14] = [
         ("\r\n  x", false, false, "4:1:2 true"),
         ("\r\n\tx", false, false, "2:1:0 true"),
         ("\r\n  #c\r\nx", false, false, "8:2:0 true"),
@@ -352,10 +358,63 @@ fn gaps(rt: HostRuntime) -> Result<(), Fail> {
         ("\n\tx", false, false, "1:1:0 true"),
         ("\n\tx", true, false, "2:1:1 true"),
         ("\n\u{FEFF} x", false, false, "5:1:2 true"),
+        (" \t #c", false, false, "5:0:5 false"),
+        (" \t #c", false, true, "1:0:1 false"),
+        ("\n \tx", true, true, "3:1:2 true"),
+        ("#c\n#d\r\n\u{2028} #e\r  x", false, true, "16:4:2 true"),
+        ("#c\n\n \n\tx", false, false, "6:3:0 true"),
     ];
     for (bytes, in_flow, allowed, want) in gaps {
         let shown = show_gap(alloc, bytes.as_bytes(), in_flow, allowed)?;
         assert_eq!(rt; shown.as_str(), want, "{bytes}");
+    }
+    Ok(())
+}
+
+/// Compares the gap before a comment of so many x, a break, and spaces with what is wanted.
+fn expect_comment(
+    rt: &impl Abort,
+    alloc: Global,
+    break_is: (&str, bool),
+    sizes: (u64, u64),
+) -> Result<(), Fail> {
+    let (between, broken) = break_is;
+    let (letters, spaces) = sizes;
+    let mut text = String::from_str(alloc, "#")?;
+    push_letters(&mut text, "x", letters)?;
+    text.push_str(between)?;
+    push_letters(&mut text, " ", spaces)?;
+    let index = text.as_bytes().len();
+    text.push_str("y")?;
+    let shown = show_gap(alloc, text.as_bytes(), false, true)?;
+    let end = index + 1;
+    let want = if broken {
+        format!(in alloc; "{index}:1:{spaces} true")?
+    } else {
+        format!(in alloc; "{end}:0:{} false", letters + spaces + 3)?
+    };
+    assert_eq!(rt; shown.as_str(), want.as_str(), "{letters} {spaces}");
+    Ok(())
+}
+
+#[test]
+fn comments_of_each_length(rt: HostRuntime) -> Result<(), Fail> {
+    let breaks: [(&str, bool); 8] = [
+        ("\n", true),
+        ("\r", true),
+        ("\r\n", true),
+        ("\u{85}", true),
+        ("\u{2028}", true),
+        ("\u{2029}", true),
+        ("\u{a9}", false),
+        ("\u{202a}", false),
+    ];
+    for break_is in breaks {
+        for letters in 0..36u64 {
+            for spaces in [0u64, 1, 14, 15, 16, 17, 33] {
+                expect_comment(&rt, rt.alloc(), break_is, (letters, spaces))?;
+            }
+        }
     }
     Ok(())
 }
@@ -1400,9 +1459,11 @@ fn stream_ends_read(rt: HostRuntime) -> Result<(), Fail> {
 #[test]
 fn characters_read(rt: HostRuntime) -> Result<(), Fail> {
     let alloc = rt.alloc();
-    let rows: [(&str, bool, &str); 12] = [
-        ("--- a", false, "no character"),
-        ("...", false, "no character"),
+    let rows: [(&str, bool, &str); 14] = [
+        ("--- a", false, "document start 0:0:0 3:0:3 3:0:3 false"),
+        ("---\n", true, "document start 0:0:0 3:0:3 3:0:3 false"),
+        ("...", false, "document end 0:0:0 3:0:3 3:0:3 false"),
+        ("...a", false, "no character"),
         ("[a", false, "sequence start 0:0:0 1:0:1 1:0:1 false"),
         ("{a", true, "mapping start 0:0:0 1:0:1 1:0:1 false"),
         ("]", true, "sequence end 0:0:0 1:0:1 1:0:1 false"),

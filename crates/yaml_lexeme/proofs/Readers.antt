@@ -38,3 +38,5 @@ pub mod UriRuns
 pub mod DirectiveNumbers
 -- A lexeme of one character begins with one of ASCII that is no break.
 pub mod FirstCharacter
+-- A document marker is three characters of ASCII that are no breaks.
+pub mod DocumentMarkers

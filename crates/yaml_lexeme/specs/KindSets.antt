@@ -22,6 +22,10 @@ block_kind folded = if folded then kind.FOLDED else kind.LITERAL
 abbrev pub name_kind : Bool → yaml_lexeme_kind_t
 name_kind anchor = if anchor then kind.ANCHOR else kind.ALIAS
 
+-- the kind of a document marker: of `---`, which starts a document, or of `...`, which ends one
+abbrev pub marker_kind : Bool → yaml_lexeme_kind_t
+marker_kind start = if start then kind.DOCUMENT_START else kind.DOCUMENT_END
+
 -- kinds whose lexemes need no memory, and are never refused
 abbrev pub is_bare : yaml_lexeme_kind_t → Bool
 is_bare kind.STREAM_END = true

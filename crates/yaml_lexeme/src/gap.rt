@@ -1,9 +1,11 @@
 //! What is between lexemes.
-ghost use Rattle.std.specs.Prelude.{ℕ, ◌≡◌, ◌≤◌, true, IfSome};
-ghost use Rattle.yaml_lexeme.specs.Place.{place_at, after_run, peek};
+ghost use Rattle.std.specs.Prelude.{ℕ, ◌≡◌, ◌≤◌, ◌||◌, not, true, IfSome, nat_lt};
+ghost use Rattle.yaml_lexeme.specs.Place.{place_at, after_run, break_len, peek};
 ghost use Rattle.yaml_lexeme.specs.Counted.{IsMarkOf};
 ghost use Rattle.yaml_lexeme.specs.Classes.{is_in_line};
+ghost use Rattle.yaml_lexeme.specs.Block.{next_line};
 ghost use Rattle.yaml_lexeme.specs.Gap as spec;
+ghost use Rattle.yaml_lexeme.specs.inside.Moves.{past_break};
 ghost use Rattle.yaml_lexeme.specs.inside.Runs as runs;
 ghost use Rattle.yaml_lexeme.specs.Decider.{IsGap};
 ghost use Rattle.yaml_lexeme.specs.GapText.{EndsLongestGap};
@@ -21,16 +23,6 @@ fn skip_line(cursor: &mut cursor_t)
     cursor.skip_run(class_t::IN_LINE);
 }
 
-/// Takes a comment, if there is one here.
-#[inline(always)]
-pub(crate) fn skip_comment(cursor: &mut cursor_t)
-    ensures { cursor.new ≡ spec.after_comment cursor.old }
-{
-    if check_at!(cursor, '#', 0) {
-        skip_line(cursor);
-    }
-}
-
 /// Takes a comment, if there is one here, which is rare. So the cursor is copied for it, and stays in registers.
 #[inline(always)]
 pub(crate) fn skip_rare_comment(cursor: &mut cursor_t)
@@ -43,30 +35,74 @@ pub(crate) fn skip_rare_comment(cursor: &mut cursor_t)
     }
 }
 
-#[tactic(auto, unfolding(crate::specs::Gap::after_gap_line))]
+/// Takes a comment, or what is left of a line, and the break after it. Returns whether there is a break.
 #[inline(always)]
-fn skip_gap_line(cursor: &mut cursor_t, tabs: bool)
-    ensures { cursor.new ≡ spec.after_gap_line tabs cursor.old }
+fn take_comment_line(cursor: &mut cursor_t) -> bool
+    ensures end { cursor.new ≡ next_line cursor.old }
+    ensures broken { result ≡ nat_lt 0 (break_len (after_run is_in_line cursor.old)) }
+{
+    if cursor.take_fed_line().is_some() {
+        return true;
+    }
+    let mut here = cursor.again();
+    skip_line(&mut here);
+    *cursor = here;
+    cursor.pass_break()
+}
+
+/// Takes a byte order mark, if there is one here at the start of a line.
+#[inline(always)]
+fn skip_mark(cursor: &mut cursor_t)
+    ensures { cursor.new ≡ spec.after_mark cursor.old }
 {
     if cursor.mark().column == 0 && check_at!(cursor, '\u{FEFF}', 0) {
         cursor.advance();
     }
-    cursor.skip_run(class_t::GAP_BLANK(tabs));
-    skip_comment(cursor);
+}
+
+/// Takes the blanks that are here. Tabs are rare, and taken only if the flag is set.
+#[inline(always)]
+fn skip_gap_blanks(cursor: &mut cursor_t, tabs: bool)
+    ensures { cursor.new ≡ after_run (spec.is_gap_blank tabs) cursor.old }
+{
+    cursor.skip_all_spaces();
+    cursor.skip_rest(class_t::GAP_BLANK(tabs));
+}
+
+/// Takes a gap line and its break. Returns whether there is a break.
+#[tactic(auto, unfolding(crate::specs::Gap::after_gap_line))]
+#[inline(always)]
+fn take_gap_line(cursor: &mut cursor_t, tabs: bool) -> bool
+    ensures end { cursor.new ≡ past_break (spec.after_gap_line tabs cursor.old) }
+    ensures broken { result ≡ nat_lt 0 (break_len (spec.after_gap_line tabs cursor.old)) }
+{
+    skip_mark(cursor);
+    skip_gap_blanks(cursor, tabs);
+    if check_at!(cursor, '#', 0) {
+        take_comment_line(cursor)
+    } else {
+        cursor.pass_break()
+    }
+}
+
+/// Whether tabs are blanks on the first line of a gap.
+#[inline(always)]
+fn takes_tabs(in_flow: bool, allowed: bool) -> bool
+    ensures { result ≡ (in_flow || not allowed) }
+{
+    in_flow || !allowed
 }
 
 /// Takes the gap that is here, line by line, and returns whether a break is in it.
-#[inline(never)]
-fn skip_gap_lines(cursor: &mut cursor_t, in_flow: bool, allowed: bool) -> bool
+#[inline(always)]
+fn take_gap_lines(cursor: &mut cursor_t, in_flow: bool, allowed: bool) -> bool
     ensures { (cursor.new, result) ≡ spec.gap in_flow allowed cursor.old }
 {
-    skip_gap_line(cursor, in_flow || !allowed);
-    let broken = cursor.break_len() > 0;
-    'lines: while cursor.break_len() > 0 {
-        cursor.skip(cursor.break_len());
-        skip_gap_line(cursor, in_flow);
+    if !take_gap_line(cursor, takes_tabs(in_flow, allowed)) {
+        return false;
     }
-    broken
+    'lines: while take_gap_line(cursor, in_flow) {}
+    true
 }
 
 /// Whether a character that is not ASCII belongs to no gap, and is no break.
@@ -120,11 +156,11 @@ fn long_gap(
 {
     let mut cursor = cursor_t::at(text, at);
     if check_at!(cursor, '\r', 0)
-        && let Some(next) = after_crlf(&cursor)
+        && let Some(next) = after_crlf(&cursor.again())
     {
         return (next.mark(), true);
     }
-    let broken = skip_gap_lines(&mut cursor, in_flow, allowed);
+    let broken = take_gap_lines(&mut cursor, in_flow, allowed);
     (cursor.mark(), broken)
 }
 
@@ -160,6 +196,30 @@ fn short_gap<'a>(cursor: &cursor_t<'a>) -> Option<(cursor_t<'a>, bool)>
     Some((next, true))
 }
 
+/// The gap from a place on, by a call, since few gaps are long. The mark is copied and taken apart, so that it stays in
+/// registers.
+#[inline(always)]
+fn rare_gap(
+    text: &yaml_text_t,
+    at: yaml_mark_t,
+    in_flow: bool,
+    allowed: bool,
+) -> (yaml_mark_t, bool)
+    requires { (n : ℕ) × IsMarkOf text.now.chars at n }
+    ensures mark { (n : ℕ) → IsMarkOf text.now.chars at n
+        → result.0 ≡ (spec.gap in_flow allowed (place_at text.now.chars n)).0.mark }
+    ensures broken { (n : ℕ) → IsMarkOf text.now.chars at n
+        → result.1 ≡ (spec.gap in_flow allowed (place_at text.now.chars n)).1 }
+{
+    let again = yaml_mark_t {
+        index: at.index,
+        line: at.line,
+        column: at.column,
+    };
+    let (mark, broken) = long_gap(text, again, in_flow, allowed);
+    (mark, broken)
+}
+
 /// The gap from a place on: the mark of the place after it, and whether a break is in it (YAML 1.1, 6.2
 /// Comments and 6.3 Separation Spaces). If the gap is empty, the mark is that of the place itself.
 ///
@@ -189,15 +249,6 @@ pub fn yaml_gap(
     let cursor = cursor_t::at(text, at);
     match short_gap(&cursor) {
         Some((next, broken)) => (next.mark(), broken),
-        None => {
-            // copied and taken apart, so that the marks stay in registers
-            let again = yaml_mark_t {
-                index: at.index,
-                line: at.line,
-                column: at.column,
-            };
-            let (mark, broken) = long_gap(text, again, in_flow, allowed);
-            (mark, broken)
-        }
+        None => rare_gap(text, at, in_flow, allowed),
     }
 }

@@ -120,25 +120,17 @@ fn kind_at(cursor: &cursor_t, in_flow: bool) -> Option<yaml_lexeme_kind_t>
     if c.is_ascii_alphanumeric() {
         return Some(yaml_lexeme_kind_t::PLAIN);
     }
-    if cursor.mark().column == 0 {
-        if c == '%' {
-            return Some(yaml_lexeme_kind_t::DIRECTIVE);
-        }
-        if is_marker_of(cursor, '-') {
-            return Some(yaml_lexeme_kind_t::DOCUMENT_START);
-        }
-        if is_marker_of(cursor, '.') {
-            return Some(yaml_lexeme_kind_t::DOCUMENT_END);
-        }
-    }
     Some(match c {
         '\0' => yaml_lexeme_kind_t::STREAM_END,
+        '%' if cursor.mark().column == 0 => yaml_lexeme_kind_t::DIRECTIVE,
         '[' => yaml_lexeme_kind_t::FLOW_SEQUENCE_START,
         '{' => yaml_lexeme_kind_t::FLOW_MAPPING_START,
         ']' => yaml_lexeme_kind_t::FLOW_SEQUENCE_END,
         '}' => yaml_lexeme_kind_t::FLOW_MAPPING_END,
         ',' => yaml_lexeme_kind_t::FLOW_ENTRY,
         '-' if is_at!(cursor, ends, 1) => yaml_lexeme_kind_t::BLOCK_ENTRY,
+        '-' if is_marker_of(cursor, '-') => yaml_lexeme_kind_t::DOCUMENT_START,
+        '.' if is_marker_of(cursor, '.') => yaml_lexeme_kind_t::DOCUMENT_END,
         '?' if in_flow || is_at!(cursor, ends, 1) => yaml_lexeme_kind_t::KEY,
         ':' if in_flow || is_at!(cursor, ends, 1) => yaml_lexeme_kind_t::VALUE,
         '*' => yaml_lexeme_kind_t::ALIAS,

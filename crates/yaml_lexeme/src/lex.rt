@@ -99,15 +99,30 @@ fn take_character(cursor: &mut cursor_t, kind: yaml_lexeme_kind_t) -> yaml_lexem
     whole_of(says_of(kind), start, cursor.mark())
 }
 
+/// The kind of a document marker: of `---`, which starts a document, or of `...`, which ends one.
+#[inline(always)]
+fn marker_kind(start: bool) -> yaml_lexeme_kind_t
+    ensures { result ≡ sets.marker_kind start }
+{
+    if start {
+        yaml_lexeme_kind_t::DOCUMENT_START
+    } else {
+        yaml_lexeme_kind_t::DOCUMENT_END
+    }
+}
+
 /// Takes a document marker.
-fn take_marker(cursor: &mut cursor_t, kind: yaml_lexeme_kind_t) -> yaml_lexeme_t
-    requires { spec.len_of kind ≡ 3 }
-    ensures { lexeme (whole spec.says_of) cursor.old (found kind (skip (spec.len_of kind) cursor.old))
+#[inline(always)]
+fn take_marker(cursor: &mut cursor_t, start: bool) -> yaml_lexeme_t
+    requires { (flow : Bool) × (kinds.kind_at flow cursor.old ≡ Some (sets.marker_kind start)) }
+    ensures { lexeme (whole spec.says_of) cursor.old (found (sets.marker_kind start) (skip 3 cursor.old))
         ≡ found (lexeme_of result) cursor.new }
 {
-    let start = cursor.mark();
-    cursor.skip(3);
-    whole_of(says_of(kind), start, cursor.mark())
+    let front = cursor.mark();
+    cursor.pass();
+    cursor.pass();
+    cursor.pass();
+    whole_of(says_of(marker_kind(start)), front, cursor.mark())
 }
 
 /// What an anchor or an alias says.
@@ -340,9 +355,8 @@ fn take_lexeme(
 {
     match kind {
         yaml_lexeme_kind_t::STREAM_END => take_stream_end(cursor),
-        yaml_lexeme_kind_t::DOCUMENT_START | yaml_lexeme_kind_t::DOCUMENT_END => {
-            Ok(take_marker(cursor, kind))
-        }
+        yaml_lexeme_kind_t::DOCUMENT_START => Ok(take_marker(cursor, true)),
+        yaml_lexeme_kind_t::DOCUMENT_END => Ok(take_marker(cursor, false)),
         yaml_lexeme_kind_t::FLOW_SEQUENCE_START
         | yaml_lexeme_kind_t::FLOW_MAPPING_START
         | yaml_lexeme_kind_t::FLOW_SEQUENCE_END
@@ -511,6 +525,22 @@ pub fn yaml_read_character(
         → lexeme_at kind context (place_at text.now.chars n) ≡ Ok (lexeme_of result) }
 {
     take_character(&mut cursor_t::at(text, at), kind)
+}
+
+/// The document marker at a place: `---` if `start` is set, and else `...` (YAML 1.1, 7.2 Document Boundary Markers).
+/// No memory is taken.
+///
+/// `at` must be the mark of a place of this text, as for [`yaml_lexeme_at`], and `yaml_lexeme_kind` must return the kind
+/// of that marker there. It is what `yaml_lexeme_at` returns there for the kind, in any context.
+#[tactic(auto, unfolding(crate::specs::Lex::lex))]
+#[inline(always)]
+pub fn yaml_read_marker(text: &yaml_text_t, at: yaml_mark_t, start: bool) -> yaml_lexeme_t
+    requires { (n : ℕ) × IsMarkOf text.now.chars at n
+        × ((flow : Bool) × (kinds.kind_at flow (place_at text.now.chars n) ≡ Some (sets.marker_kind start))) }
+    ensures { (n : ℕ) (context : yaml_context_t) → IsMarkOf text.now.chars at n
+        → lexeme_at (sets.marker_kind start) context (place_at text.now.chars n) ≡ Ok (lexeme_of result) }
+{
+    take_marker(&mut cursor_t::at(text, at), start)
 }
 
 /// The stream end at a place. No memory is taken.

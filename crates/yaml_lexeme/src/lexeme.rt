@@ -45,7 +45,7 @@ pub(crate) fn whole_of(
     }
 }
 
-/// The lexeme of a scalar.
+/// The lexeme of a scalar. Its end is taken apart, so that it is not copied from place to place on the stack.
 pub(crate) fn scalar_to(
     style: yaml_scalar_style_t,
     start: yaml_mark_t,
@@ -60,7 +60,11 @@ pub(crate) fn scalar_to(
             style,
         },
         start_mark: start,
-        end_mark: scalar.end,
+        end_mark: yaml_mark_t {
+            index: scalar.end.index,
+            line: scalar.end.line,
+            column: scalar.end.column,
+        },
         reach,
         passed_break: scalar.passed_break,
     }

@@ -28,8 +28,8 @@ pub use gap::yaml_gap;
 pub use kind::{yaml_decider_at, yaml_lexeme_kind, yaml_lexeme_kind_t};
 pub use lex::{
     yaml_context_t, yaml_lexeme_at, yaml_lexeme_fault, yaml_read_block, yaml_read_character,
-    yaml_read_lexeme, yaml_read_name, yaml_read_plain, yaml_read_quoted, yaml_read_stream_end,
-    yaml_read_tag, yaml_spot_t,
+    yaml_read_lexeme, yaml_read_marker, yaml_read_name, yaml_read_plain, yaml_read_quoted,
+    yaml_read_stream_end, yaml_read_tag, yaml_spot_t,
 };
 pub use lexeme::yaml_lexeme_t;
 pub use problem::{yaml_problem_t, yaml_refusal_t};

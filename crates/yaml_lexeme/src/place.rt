@@ -1,6 +1,6 @@
 //! A place that moves through a text.
 ghost use Rattle.std.specs.Prelude.{ℕ, min, ◌≡◌, ◌+◌, ◌^◌, ◌<◌, ◌≤◌, length, slice_index, take, drop, false, true};
-ghost use Rattle.std.specs.Prelude.{IfSome, None};
+ghost use Rattle.std.specs.Prelude.{IfSome, None, nat_lt};
 ghost use Rattle.std.specs.Char.{len_utf8};
 ghost use Rattle.std.specs.Str.{chars};
 ghost use Rattle.yaml_text.specs.Chars.{utf8};
@@ -8,7 +8,7 @@ ghost use Rattle.yaml_text.specs.TextBytes.{IsText};
 ghost use Rattle.yaml_text.specs.Classes.{is_break};
 ghost use Rattle.yaml_text.specs.Utf8.{value_of, width_of};
 ghost use Rattle.yaml_lexeme.specs.Place.{peek, first, place_at, skip, after_run, run};
-ghost use Rattle.yaml_lexeme.specs.inside.Moves.{mark_after, is_feed, feed_width, FedLine};
+ghost use Rattle.yaml_lexeme.specs.inside.Moves.{mark_after, is_feed, feed_width, past_break, FedLine};
 ghost use Rattle.yaml_lexeme.specs.Counted.{IsMarkOf};
 ghost use Rattle.yaml_lexeme.specs.Place.{run_len, break_len};
 ghost use Rattle.yaml_lexeme.specs.declared.runs.class_t.TheVariants.{BLANK, SPACE};
@@ -224,12 +224,17 @@ impl<'a> cursor_t<'a> {
         }
     }
 
+    /// The mark of this place. It is taken apart, so that it is not copied from place to place on the stack.
     #[inline(always)]
     pub fn mark(&self) -> yaml_mark_t
         ensures value { result ≡ self.now.mark }
         ensures room { result.line + result.column < 2 ^ 64 }
     {
-        self.mark
+        yaml_mark_t {
+            index: self.mark.index,
+            line: self.mark.line,
+            column: self.mark.column,
+        }
     }
 
     /// The character `k` places on, or 0 past the end.
@@ -360,6 +365,21 @@ impl<'a> cursor_t<'a> {
         }
     }
 
+    /// Takes the break that is here, if there is one. Returns whether there is. Mostly that is a line feed.
+    #[inline(always)]
+    pub fn pass_break(&mut self) -> bool
+        ensures end { self.new ≡ past_break self.old }
+        ensures here { result ≡ nat_lt 0 (break_len self.old) }
+    {
+        if check_at!(self, '\n', 0) {
+            self.pass_feed();
+            return true;
+        }
+        let n = self.break_len();
+        self.skip(n);
+        n > 0
+    }
+
     /// The bytes from an earlier place on up to this one.
     #[inline(always)]
     pub fn since(&self, start: &cursor_t<'a>) -> &'a [u8]
@@ -467,7 +487,7 @@ impl<'a> cursor_t<'a> {
 
     /// Takes the run of the class that is here, if there is one.
     #[inline(always)]
-    fn skip_rest(&mut self, class: class_t)
+    pub fn skip_rest(&mut self, class: class_t)
         ensures { self.new ≡ after_run (class_test class) self.old }
     {
         if is_in(class, self.peek(0)) {

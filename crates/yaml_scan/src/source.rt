@@ -1,6 +1,6 @@
 //! The readers of `yaml_lexeme`, with contracts over places instead of marks.
 ghost use Rattle.std.specs.Prelude.{◌≡◌, ℕ, ◌≤◌, Bool, Option, Some, length, IfSome, true};
-ghost use Rattle.yaml_lexeme.specs.KindSets.{block_kind, is_character, name_kind, quoted_kind};
+ghost use Rattle.yaml_lexeme.specs.KindSets.{block_kind, is_character, marker_kind, name_kind, quoted_kind};
 ghost use Rattle.yaml_lexeme.specs.LexemeOf.{lexeme_of};
 ghost use Rattle.yaml_lexeme.specs.Counted.{IsMarkOf};
 ghost use Rattle.yaml_lexeme.specs.Decider.{one_on};
@@ -13,8 +13,9 @@ ghost use Rattle.yaml_scan.specs.inside.TextReads.{IsDecider, IsRead};
 use crate::scanner::state_t;
 use yaml_lexeme::{
     yaml_context_t, yaml_decider_at, yaml_gap, yaml_lexeme_kind, yaml_lexeme_kind_t, yaml_lexeme_t,
-    yaml_read_block, yaml_read_character, yaml_read_lexeme, yaml_read_name, yaml_read_plain,
-    yaml_read_quoted, yaml_read_stream_end, yaml_read_tag, yaml_refusal_t, yaml_spot_t,
+    yaml_read_block, yaml_read_character, yaml_read_lexeme, yaml_read_marker, yaml_read_name,
+    yaml_read_plain, yaml_read_quoted, yaml_read_stream_end, yaml_read_tag, yaml_refusal_t,
+    yaml_spot_t,
 };
 use yaml_text::{yaml_mark_t, yaml_text_t};
 
@@ -202,6 +203,17 @@ pub(crate) fn read_character(
         → IsRead text.now.chars kind depth level p (lexeme_of result) }
 {
     yaml_read_character(text, state.front, kind)
+}
+
+/// The document marker after the gap: `---` if `start` is set, and else `...`.
+#[inline(always)]
+pub(crate) fn read_marker(text: &yaml_text_t, state: &state_t, start: bool) -> yaml_lexeme_t
+    requires { (p : ℕ) × IsMarkOf text.now.chars state.now.front p
+        × ((flow : Bool) × ((source_of text.now.chars).kind flow p ≡ Some (marker_kind start))) }
+    ensures { (p depth : ℕ) (level : Option ℕ) → IsMarkOf text.now.chars state.now.front p
+        → IsRead text.now.chars (marker_kind start) depth level p (lexeme_of result) }
+{
+    yaml_read_marker(text, state.front, start)
 }
 
 /// The stream end after the gap.

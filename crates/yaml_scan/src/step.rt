@@ -4,7 +4,7 @@ ghost use Rattle.std.specs.Prelude.{Bool, List, ◌≡◌, ◌⊎◌, true, Matc
 ghost use Rattle.yaml_text.specs.Fault.{memory_fault};
 ghost use Rattle.yaml_text.specs.Text.{Text};
 ghost use Rattle.yaml_lexeme.specs.declared.kind.yaml_lexeme_kind_t.{yaml_lexeme_kind_t};
-ghost use Rattle.yaml_lexeme.specs.KindSets.{block_kind, is_character, name_kind, quoted_kind};
+ghost use Rattle.yaml_lexeme.specs.KindSets.{block_kind, is_character, marker_kind, name_kind, quoted_kind};
 ghost use Rattle.yaml_lexeme.specs.declared.kind.yaml_lexeme_kind_t.TheVariants.{PLAIN, STREAM_END, TAG};
 ghost use Rattle.yaml_scan.specs.Laid.{Laid};
 ghost use Rattle.yaml_scan.specs.inside.Scanner.{scanner_of};
@@ -21,8 +21,8 @@ use crate::layout::{end_character, end_laid, end_laid_queued, end_queued, lay_qu
 use crate::scanner::{cleared_by, refused_by, state_t, step_of};
 use crate::sink::{no_sink_t, yaml_token_sink_t};
 use crate::source::{
-    gap_end, kind_at, read_block, read_character, read_name, read_other, read_plain, read_quoted,
-    read_stream_end, read_tag,
+    gap_end, kind_at, read_block, read_character, read_marker, read_name, read_other, read_plain,
+    read_quoted, read_stream_end, read_tag,
 };
 use crate::stop::{stop_at_kind, stop_at_start, stop_in_gap, stop_t, stop_without_kind, stopped};
 use yaml_lexeme::yaml_lexeme_kind_t;
@@ -194,24 +194,36 @@ fn step_quoted<const IN_FLOW: bool, const SINGLE: bool, const DIRECT: bool, S: y
     }
 }
 
-/// Makes the step of a literal scalar.
+/// The kind of a literal or folded scalar.
+#[inline(always)]
+fn block_kind(folded: bool) -> yaml_lexeme_kind_t
+    ensures { result ≡ block_kind folded }
+{
+    if folded {
+        yaml_lexeme_kind_t::FOLDED
+    } else {
+        yaml_lexeme_kind_t::LITERAL
+    }
+}
+
+/// Makes the step of a literal or folded scalar.
 #[inline(never)]
-fn step_literal<const IN_FLOW: bool, const DIRECT: bool, S: yaml_token_sink_t>(
+fn step_block<const IN_FLOW: bool, const FOLDED: bool, const DIRECT: bool, S: yaml_token_sink_t>(
     text: &yaml_text_t,
     state: &mut state_t,
     sink: &mut S,
 ) -> Result<(), stop_t>
     ghost before: { List Laid }
-    requires { Comes before (scanner_of text.now state.old) IN_FLOW (block_kind false) }
+    requires { Comes before (scanner_of text.now state.old) IN_FLOW (block_kind FOLDED) }
     ensures steps { StepsTo before (scanner_of text.now state.old) (scanner_of text.now state.new) DIRECT
         (λ tokens. S.took sink.old tokens sink.new)
         S.may_refuse result }
     ensures within { OnOk result (S.within sink.old → S.within sink.new) }
 {
-    match begin_step(text, state, IN_FLOW, yaml_lexeme_kind_t::LITERAL) {
+    match begin_step(text, state, IN_FLOW, block_kind(FOLDED)) {
         Ok(step) => {
             let room = sink.room(state.alloc);
-            let read = read_block(room, text, state, false, step.context);
+            let read = read_block(room, text, state, FOLDED, step.context);
             match lay_read::<DIRECT, S>(text, state, sink, step, read) {
                 Ok((laid, token)) => end_laid::<DIRECT, S>(state, sink, laid, token),
                 Err(stop) => Err(stopped(stop)),
@@ -300,6 +312,37 @@ fn step_character<const DIRECT: bool, S: yaml_token_sink_t>(
     }
 }
 
+/// The kind of a document marker: of `---`, which starts a document, or of `...`, which ends one.
+#[inline(always)]
+fn marker_kind(start: bool) -> yaml_lexeme_kind_t
+    ensures { result ≡ marker_kind start }
+{
+    if start {
+        yaml_lexeme_kind_t::DOCUMENT_START
+    } else {
+        yaml_lexeme_kind_t::DOCUMENT_END
+    }
+}
+
+/// Makes the step of a document marker. Its group goes into the queue, so one function serves every sink.
+#[inline(never)]
+fn step_marker<const IN_FLOW: bool, const START: bool>(
+    text: &yaml_text_t,
+    state: &mut state_t,
+) -> Result<(), stop_t>
+    ghost before: { List Laid }
+    requires { Comes before (scanner_of text.now state.old) IN_FLOW (marker_kind START) }
+    ensures { IsStep before (scanner_of text.now state.old) (scanner_of text.now state.new) result }
+{
+    match begin_step(text, state, IN_FLOW, marker_kind(START)) {
+        Ok(step) => {
+            let lexeme = read_marker(text, state, START);
+            end_queued(text, state, step, lexeme)
+        }
+        Err(stop) => Err(stopped(stop)),
+    }
+}
+
 /// Makes the step of the stream end. Its group goes into the queue, so one function serves every sink.
 #[inline(never)]
 fn step_stream_end<const IN_FLOW: bool>(
@@ -367,11 +410,14 @@ fn step_kind<const IN_FLOW: bool, const DIRECT: bool, S: yaml_token_sink_t>(
         yaml_lexeme_kind_t::DOUBLE_QUOTED => step_quoted::<IN_FLOW, false, DIRECT, S>(
             text, state, sink,
         ),
-        yaml_lexeme_kind_t::LITERAL => step_literal::<IN_FLOW, DIRECT, S>(text, state, sink),
+        yaml_lexeme_kind_t::LITERAL => step_block::<IN_FLOW, false, DIRECT, S>(text, state, sink),
+        yaml_lexeme_kind_t::FOLDED => step_block::<IN_FLOW, true, DIRECT, S>(text, state, sink),
         yaml_lexeme_kind_t::ALIAS => step_name::<IN_FLOW, false>(text, state),
         yaml_lexeme_kind_t::ANCHOR => step_name::<IN_FLOW, true>(text, state),
         yaml_lexeme_kind_t::TAG => step_tag::<IN_FLOW>(text, state),
         yaml_lexeme_kind_t::STREAM_END => step_stream_end::<IN_FLOW>(text, state),
+        yaml_lexeme_kind_t::DOCUMENT_START => step_marker::<IN_FLOW, true>(text, state),
+        yaml_lexeme_kind_t::DOCUMENT_END => step_marker::<IN_FLOW, false>(text, state),
         yaml_lexeme_kind_t::VALUE => step_character::<DIRECT, S>(
             text,
             state,

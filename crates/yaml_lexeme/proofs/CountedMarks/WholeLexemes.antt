@@ -19,6 +19,7 @@ use Rattle.yaml_lexeme.proofs.CountedMarks.WholeSmallReaders.{Held, Holds, ok_ho
 use Rattle.yaml_lexeme.proofs.CountedMarks.CountedPlaces.{places_counted}
 use Rattle.yaml_lexeme.proofs.Places.PlaceMoves.{skip_skip, length_skip, rest_skip}
 use Rattle.yaml_lexeme.proofs.Readers.BlocksAlike.{blocks_alike}
+use Rattle.yaml_lexeme.proofs.Readers.DocumentMarkers.{marker_rows}
 use Rattle.yaml_lexeme.proofs.CountedMarks.WholeScalars.{HasMark, mark_here, Marks, quoted_clears, plain_marks, directive_marks, block_marks}
 use Rattle.yaml_lexeme.specs.Block.{block}
 use Rattle.yaml_lexeme.specs.Classes.{ends}
@@ -54,42 +55,6 @@ starts flow k p h =
       | inl e ↦ let none : kind_at flow p ≡ None = no_kind flow p (is_cr (first p) e) in absurd (cc (none, h))
       | inr f ↦ f
     ]
-
--- a row that gives a lexeme of one character does not give a document marker
-peel : (b : Bool) (j k : yaml_lexeme_kind_t) (rest : Option yaml_lexeme_kind_t) → len_of j ≡ 1 → len_of k ≡ 3 → (if b then Some j else rest) ≡ Some k → rest ≡ Some k
-peel true j k rest one three h = let e : j ≡ k = cc h in absurd (omega (arith, one, three, ap len_of e))
-peel false j k rest one three h = h
-
-off : (b : Bool) (x rest : Option yaml_lexeme_kind_t) (k : yaml_lexeme_kind_t) → b ≡ false → (if b then x else rest) ≡ Some k → rest ≡ Some k
-off true x rest k e h = absurd cc
-off false x rest k e h = h
-
-marker_rows : (flow : Bool) (k : yaml_lexeme_kind_t) (p : Place) → len_of k ≡ 3 → is_marker_of 0x2D p ≡ false → is_marker_of 0x2E p ≡ false → kind_at flow p ≡ Some k → ⊥
-unfolding kind_at
-marker_rows flow k p t m n h =
-    let c = first p in
-    let alone = ends (peek p 1) in
-    let r1 = peel (is_z c) _ k _ refl t h in
-    let r2 = peel (p.mark.column == 0 && c == 0x25) _ k _ refl t r1 in
-    let r3 = off (is_marker_of 0x2D p) _ _ k m r2 in
-    let r4 = off (is_marker_of 0x2E p) _ _ k n r3 in
-    let r5 = peel (c == 0x5B) _ k _ refl t r4 in
-    let r6 = peel (c == 0x7B) _ k _ refl t r5 in
-    let r7 = peel (c == 0x5D) _ k _ refl t r6 in
-    let r8 = peel (c == 0x7D) _ k _ refl t r7 in
-    let r9 = peel (c == 0x2C) _ k _ refl t r8 in
-    let r10 = peel (c == 0x2D && alone) _ k _ refl t r9 in
-    let r11 = peel (c == 0x3F && (flow || alone)) _ k _ refl t r10 in
-    let r12 = peel (c == 0x3A && (flow || alone)) _ k _ refl t r11 in
-    let r13 = peel (c == 0x2A) _ k _ refl t r12 in
-    let r14 = peel (c == 0x26) _ k _ refl t r13 in
-    let r15 = peel (c == 0x21) _ k _ refl t r14 in
-    let r16 = peel (c == 0x7C && not flow) _ k _ refl t r15 in
-    let r17 = peel (c == 0x3E && not flow) _ k _ refl t r16 in
-    let r18 = peel (c == 0x27) _ k _ refl t r17 in
-    let r19 = peel (c == 0x22) _ k _ refl t r18 in
-    let r20 = peel (starts_plain flow (first p)) _ k _ refl t r19 in
-    absurd (cc r20)
 
 third : (c : ℕ) (p : Place) → (c == 0x0D) ≡ false → is_marker_of c p ≡ true → (peek p 2 == 0x0D) ≡ false
 third c p n h = is_not (peek p 2) c n (and_parts (peek p 2 == c) (ends (peek p 3)) (and_parts (p.mark.column == 0 && (peek p 0 == c && peek p 1 == c)) (peek p 2 == c && ends (peek p 3)) h).1).0

@@ -24,7 +24,7 @@ this : (b : Bool) (j k : yaml_lexeme_kind_t) (rest : Option yaml_lexeme_kind_t) 
 this true j k rest c h g f = g refl
 this false j k rest c h g f = f h
 
-single : (n c : ℕ) → (c == n) ≡ true → IsSingle n → IsSingle c
+pub single : (n c : ℕ) → (c == n) ≡ true → IsSingle n → IsSingle c
 single n c e i = subst IsSingle (sym (eqb-true c n e)) i
 
 pub first_single : (flow : Bool) (p : Place) (k : yaml_lexeme_kind_t) → kind_at flow p ≡ Some k → is_character k ≡ true → IsSingle (first p)

@@ -6,11 +6,12 @@ use Rattle.std.specs.Prelude.{nat_lt}
 use Rattle.yaml_text.specs.Classes.{is_break}
 use Rattle.yaml_lexeme.specs.declared.runs.class_t.TheVariants.{SPACE}
 use Rattle.yaml_lexeme.specs.inside.Runs.{class_test, is_solid}
-use Rattle.yaml_lexeme.proofs.Places.PlaceMoves.{length_skip, length_one, within_if, break_within, after_none, after_run_more, first_on, is_break_len}
+use Rattle.yaml_lexeme.proofs.Places.PlaceMoves.{skip_none, length_skip, length_one, within_if, break_within, after_none, after_run_more, first_on, is_break_len}
 use Rattle.yaml_lexeme.specs.Classes.{is_in_line}
 use Rattle.yaml_lexeme.specs.Gap.{byte_order_mark, is_gap_blank, after_mark, after_comment, after_gap_line}
 use Rattle.yaml_lexeme.specs.Gap.{after_gap_lines, gap}
 use Rattle.yaml_lexeme.specs.Decider.{IsGap}
+use Rattle.yaml_lexeme.specs.inside.Moves.{past_break}
 use Rattle.yaml_lexeme.specs.Place.{Place, first, peek, skip, after_run, run_len, break_len}
 
 pub within_line : (tabs : Bool) (p : Place) → length (after_gap_line tabs p).rest ≤ length p.rest
@@ -140,6 +141,10 @@ run_on test more sub z y (suc fuel) p l =
 space_blank : (tabs : Bool) (c : ℕ) → class_test SPACE c ≡ true → is_gap_blank tabs c ≡ true
 space_blank tabs c h = grind (arith, nat_tests)
 
+-- the blanks of a gap line are spaces, and then what is left of them
+pub blanks_on : (tabs : Bool) (p q : Place) → q ≡ after_run (class_test SPACE) p → after_run (is_gap_blank tabs) q ≡ after_run (is_gap_blank tabs) p
+blanks_on tabs p q e = ap (after_run (is_gap_blank tabs)) e ∙ sym (run_on (class_test SPACE) (is_gap_blank tabs) (space_blank tabs) refl refl (length p.rest) p (omega arith))
+
 space_no_mark : (p q : Place) → q ≡ after_run (class_test SPACE) p → is_solid (first q) ≡ true → (first p == byte_order_mark) ≡ false
 space_no_mark p q e h =
     elim (cases_Bool (class_test SPACE (first p))) [
@@ -174,3 +179,34 @@ gap_feed p q e at h =
     let yes : is_break (first p) ≡ true = rw e refl in
     let one : break_len p ≡ 1 = rw e refl in
     gap_break p q yes (at ∙ ap (λ n. after_run (class_test SPACE) (skip n p)) (sym one)) h
+
+-- ---- a gap line and its break at a time
+
+stays_there : (p q : Place) → nat_lt 0 (break_len p) ≡ false → q ≡ past_break p → q ≡ p
+stays_there p q h e = let none : break_len p ≡ 0 = grind (arith, nat_tests) in e ∙ ap (λ n. skip n p) none ∙ skip_none p
+
+-- a gap line that no break ends is all of the gap
+pub gap_alone : (flow allowed : Bool) (p q : Place) → nat_lt 0 (break_len (after_gap_line (flow || not allowed) p)) ≡ false → q ≡ past_break (after_gap_line (flow || not allowed) p) → (q, false) ≡ gap flow allowed p
+gap_alone flow allowed p q h e =
+    let line = after_gap_line (flow || not allowed) p in
+    let none : break_len line ≡ 0 = grind (arith, nat_tests) in
+    rw (stays_there line q h e) (sym (gap_in_line flow allowed p line refl none))
+
+-- a gap line and its break bring the loop on
+pub gap_goes : (flow : Bool) (p q first : Place) → nat_lt 0 (break_len (after_gap_line flow p)) ≡ true → q ≡ past_break (after_gap_line flow p) → Comes flow (after_gap_line flow p) first → (length q.rest < length p.rest) × Comes flow (after_gap_line flow q) first
+gap_goes flow p q first h e so =
+    let line = after_gap_line flow p in
+    let some : 0 < break_len line = grind (arith, nat_tests) in
+    rw e (omega (arith, within_line flow p, length_skip (break_len line) line, break_within line some), (line_goes flow line first some so).1)
+
+-- the gap line that no break ends is the last one
+pub gap_ends : (flow allowed : Bool) (p one q r : Place) → nat_lt 0 (break_len (after_gap_line (flow || not allowed) p)) ≡ true → one ≡ past_break (after_gap_line (flow || not allowed) p) → Comes flow (after_gap_line flow q) (after_gap_line flow one) → nat_lt 0 (break_len (after_gap_line flow q)) ≡ false → r ≡ past_break (after_gap_line flow q) → (r, true) ≡ gap flow allowed p
+unfolding gap
+gap_ends flow allowed p one q r h e so over f =
+    let line = after_gap_line (flow || not allowed) p in
+    let last = after_gap_line flow q in
+    let some : 0 < break_len line = grind (arith, nat_tests) in
+    let none : break_len last ≡ 0 = grind (arith, nat_tests) in
+    let first : Comes flow (after_gap_line flow one) line = rw e (line_goes flow line line some refl).1 in
+    let all = line_ends flow last line none (so ∙ first) in
+    rw (h) (ap (λ (s : Place). (s, true)) (stays_there last r over f ∙ all))

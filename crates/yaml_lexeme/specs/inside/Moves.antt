@@ -8,7 +8,7 @@ use Rattle.yaml_text.specs.MarkOn.{mark_on}
 use Rattle.yaml_text.specs.Chars.{utf8}
 use Rattle.yaml_lexeme.specs.Block.{next_line}
 use Rattle.yaml_lexeme.specs.Classes.{is_in_line}
-use Rattle.yaml_lexeme.specs.Place.{Place, first, peek, run, after_run}
+use Rattle.yaml_lexeme.specs.Place.{Place, first, peek, run, after_run, break_len, skip}
 
 -- a break ends after c, which `next` follows: CR LF is one break
 abbrev pub ends_line : ℕ → ℕ → Bool
@@ -23,6 +23,10 @@ abbrev pub mark_after : yaml_mark_t → ℕ → ℕ → yaml_mark_t
 mark_after m c next =
     if ends_line c next then record { index = m.index + len_utf8 c; line = m.line + 1; column = 0 }
     else record { index = m.index + len_utf8 c; line = m.line; column = m.column + 1 }
+
+-- after the break that is here, if there is one
+abbrev pub past_break : Place → Place
+past_break p = skip (break_len p) p
 
 -- the place n characters on, from this mark and these characters
 abbrev pub skip_from : ℕ → yaml_mark_t → List ℕ → Place

@@ -7,3 +7,9 @@ yaml_lexeme_kind-requires c = (0, at_front c.in-Ok.text.chars)
 
 pub yaml_read_character-requires-clause-place : goal.yaml_read_character-requires-clause-place
 yaml_read_character-requires-clause-place c = let f = at_front c.in-Ok.text.chars in (0, f, (c.args.in_flow, sym (c.yaml_lexeme_kind.ensures 0 f) ∙ c.in-Some.is))
+
+pub yaml_read_marker-requires : goal.yaml_read_marker-requires
+yaml_read_marker-requires c = let f = at_front c.in-Ok.text.chars in (0, f, (c.args.in_flow, sym (c.yaml_lexeme_kind.ensures 0 f) ∙ c.in-Some.is))
+
+pub yaml_read_marker-requires-2 : goal.yaml_read_marker-requires-2
+yaml_read_marker-requires-2 c = let f = at_front c.in-Ok.text.chars in (0, f, (c.args.in_flow, sym (c.yaml_lexeme_kind.ensures 0 f) ∙ c.in-Some.is))

@@ -13,4 +13,4 @@ returns-in-Some-clause-longest c n at =
 
 pub returns-in-None-clause-longest : goal.returns-in-None-clause-longest
 returns-in-None-clause-longest c n at =
-    ends_longest c.args.in_flow c.args.allowed (place_at c.args.text.now.chars n) c.long_gap-broken.result.0 c.long_gap-broken.result.1 (c.long_gap-broken.ensures.mark n at) (c.long_gap-broken.ensures.broken n at)
+    ends_longest c.args.in_flow c.args.allowed (place_at c.args.text.now.chars n) c.rare_gap.result.0 c.rare_gap.result.1 (c.rare_gap.ensures.mark n at) (c.rare_gap.ensures.broken n at)

@@ -31,3 +31,15 @@ returns-in-TAG-clause-within g c = on_ok_same (g.S.yaml_token_sink_t.within c.ar
 
 pub returns-in-STREAM_END-clause-within : goal.returns-in-STREAM_END-clause-within
 returns-in-STREAM_END-clause-within g c = on_ok_same (g.S.yaml_token_sink_t.within c.args.sink.now) c.step_stream_end.result
+
+pub returns-in-DOCUMENT_START-clause-steps : goal.returns-in-DOCUMENT_START-clause-steps
+returns-in-DOCUMENT_START-clause-steps g c = queued_step g.before (scanner_of c.args.text.now c.args.state.now) (scanner_of c.args.text.now c.step_marker.new.state) _ _ _ c.step_marker.result (g.met.S.yaml_token_sink_t.took_none c.args.sink.now) c.step_marker.ensures
+
+pub returns-in-DOCUMENT_START-clause-within : goal.returns-in-DOCUMENT_START-clause-within
+returns-in-DOCUMENT_START-clause-within g c = on_ok_same (g.S.yaml_token_sink_t.within c.args.sink.now) c.step_marker.result
+
+pub returns-in-DOCUMENT_END-clause-steps : goal.returns-in-DOCUMENT_END-clause-steps
+returns-in-DOCUMENT_END-clause-steps g c = queued_step g.before (scanner_of c.args.text.now c.args.state.now) (scanner_of c.args.text.now c.step_marker-in-DOCUMENT_END.new.state) _ _ _ c.step_marker-in-DOCUMENT_END.result (g.met.S.yaml_token_sink_t.took_none c.args.sink.now) c.step_marker-in-DOCUMENT_END.ensures
+
+pub returns-in-DOCUMENT_END-clause-within : goal.returns-in-DOCUMENT_END-clause-within
+returns-in-DOCUMENT_END-clause-within g c = on_ok_same (g.S.yaml_token_sink_t.within c.args.sink.now) c.step_marker-in-DOCUMENT_END.result

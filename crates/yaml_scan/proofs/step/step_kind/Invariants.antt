@@ -6,8 +6,11 @@ ghost-step_plain g a = g.before
 abbrev pub ghost-step_quoted : goal.ghost-step_quoted
 ghost-step_quoted g a = g.before
 
-abbrev pub ghost-step_literal : goal.ghost-step_literal
-ghost-step_literal g a = g.before
+abbrev pub ghost-step_block : goal.ghost-step_block
+ghost-step_block g a = g.before
+
+abbrev pub ghost-step_block-2 : goal.ghost-step_block-2
+ghost-step_block-2 g a = g.before
 
 abbrev pub ghost-step_character : goal.ghost-step_character
 ghost-step_character g a = g.before
@@ -29,3 +32,9 @@ ghost-step_tag g a = g.before
 
 abbrev pub ghost-step_stream_end : goal.ghost-step_stream_end
 ghost-step_stream_end g a = g.before
+
+abbrev pub ghost-step_marker : goal.ghost-step_marker
+ghost-step_marker g a = g.before
+
+abbrev pub ghost-step_marker-2 : goal.ghost-step_marker-2
+ghost-step_marker-2 g a = g.before
