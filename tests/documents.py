@@ -7,13 +7,15 @@ One line of output for each check; what is wrong is printed before it. The check
   any name. Paths are from the repository's root, or from the document's folder. What scripts write may be missing:
   bench/results.md, docs/speed.svg and what is in a folder `out`. The documents are README.md, CHANGELOG.md, CONTRIBUTING.md,
   docs/, and the README files of tests/, bench/, uses/, ffi/, rust/, python/ and of each crate.
+- written: what `./dev folders` writes is what it would write now: the README.md of each folder of proofs, and of each folder of
+  code or definitions that has more than eight files; the picture in ARCHITECTURE.md, and the lists of what Headline.antt stands
+  on; the laws in PROMISES.md; the clauses in RULES.md. A place in a document that is for such a part is there once.
 - rules: in RULES.md every heading has a line with a definition and a code file, and a link to it. What that line names is
-  in the file that it names: a definition in parentheses, and a test. The clauses are those that `./dev folders` writes, and
-  there is one for each definition. walks.py follows the line further.
+  in the file that it names: a definition in parentheses, and a test. There is a clause for each definition. walks.py follows the
+  line further.
 - topics: the topic of a rule is the name of its first definition file. The line names a code file of that name, a folder or
   a file of proofs that begins with it (or says that there is none by hand), and a test whose name has it.
-- proofs: PROOFS.md, and the lists of laws in PROMISES.md, are those that `./dev folders` writes, of every law, every public
-  function and every file of lemmas; every law has a comment.
+- proofs: PROOFS.md has a link to the README.md of each folder of proofs that has lemmas; every law has a comment.
 - lemmas: every file of lemmas begins with a line that says what it shows. So does the file that lists a folder of them, and
   it has a line `mod NAME` for each file there, with a sentence on the line before it or after it on the same line. A crate
   with more than ten such files has them in folders.
@@ -28,15 +30,14 @@ One line of output for each check; what is wrong is printed before it. The check
   entry there has a date, and none is of a day before the one below it.
 - machines: where a document says x86-64, it says x86-64-v2, which is what the kit compiles for.
 - crates: docs/RATTLE.md has the lines of crates.txt of all crates that its own crate needs.
-- folders: a folder with more than eight files has a README.md, but for proofs. That of a folder of code or of definitions is
-  the one that `./dev folders` writes, from the first sentence of each file.
-- picture: that of docs/ARCHITECTURE.md is the one that `./dev folders` draws, and each module that it is to show is in it.
-- headline: the lists in docs/ARCHITECTURE.md are those that `./dev folders` writes: the files that Headline.antt stands on, in an
-  order chosen by hand, and those that what bytes spell adds. The headline reaches none of what is read of a list of characters.
+- folders: a folder with more than eight files has a README.md, but for the folders within proofs. A file of a folder of code or
+  of definitions that has one begins with a sentence.
+- picture: each module that the picture in ARCHITECTURE.md is to show is in it.
+- headline: the order in which to read the files that Headline.antt stands on has all of them, and no others. The headline reaches
+  none of what is read of a list of characters.
 - scripts: the table of tests/README.md has a line for each script of tests/, and no others.
 """
 
-import glob
 import os
 import re
 import shutil
@@ -48,15 +49,16 @@ sys.path.insert(0, os.path.join(os.path.dirname(os.path.abspath(__file__)), "lib
 sys.dont_write_bytecode = True
 import headline
 from citing import statements
-from clauses import is_stale as are_clauses_stale, uncited
-from folders import MOST_FILES, long_folders, sentence, sources, stale
-from laws import CRATES, functions as public_functions, laws, lemma_files, marks, stale_lists
-from picture import drawn, is_stale, unreached
+from clauses import uncited
+from folders import MOST_FILES, long_folders, sentence, sources
+from laws import CRATES, laws, lemma_files, proof_pages
+from picture import drawn, unreached
+from repository import TOP, found, read
 from rules import files_in, front_and_sections, rules, tests_in
+from written import stale, written
 
-ROOT = os.path.dirname(os.path.dirname(os.path.abspath(__file__)))
 DOCUMENTS = ["README.md", "CHANGELOG.md", "CONTRIBUTING.md", "docs/*.md", "tests/README.md", "bench/README.md", "uses/*/README.md",
-             "ffi/README.md", "rust/README.md", "python/README.md", "crates/*/README.md"]
+             "ffi/README.md", "rust/README.md", "python/README.md", "crates/*/README.md", "crates/*/proofs/README.md"]
 FOLDERS = ("bench", "crates", "docs", "ffi", "packaging", "python", "rust", "tests", "uses")
 ENDINGS = ("antt", "c", "css", "edit", "gz", "h", "html", "md", "py", "rs", "rt", "txt")
 STAND_FOR_NAMES = {"FILE", "FUNCTION", "NAME"}
@@ -64,16 +66,6 @@ WRITTEN_BY_SCRIPTS = {"bench/results.md", "docs/speed.svg"}
 LONGEST_LINE = 120
 MOST_LOOSE_FILES = 10
 PATH = re.compile(r"(\.\./|\./)?[\w*.-]+(/[\w*.-]+)*/?")
-
-
-def found(pattern):
-    """The files and folders of a pattern, by their paths from the root."""
-    return sorted(os.path.relpath(path, ROOT) for path in glob.glob(os.path.join(ROOT, pattern), recursive=True))
-
-
-def read(path):
-    with open(os.path.join(ROOT, path), encoding="utf-8") as text:
-        return text.read()
 
 
 def names_of(pattern):
@@ -84,7 +76,7 @@ def names_of(pattern):
 def every_name():
     """The names of all files and folders, without what is built."""
     names = set()
-    for _, folders, files in os.walk(ROOT):
+    for _, folders, files in os.walk(TOP):
         folders[:] = [name for name in folders if name not in ("bin", "dist", "out", "target", ".git", "__pycache__")]
         names.update(folders + files)
     return names
@@ -115,7 +107,7 @@ def places_of(word, folder):
     if first == "..":
         return [there]
     if "/" in plain:
-        return [there] if folder and os.path.exists(os.path.join(ROOT, folder, first)) else []
+        return [there] if folder and os.path.exists(os.path.join(TOP, folder, first)) else []
     if plain.split(".")[-1] in ENDINGS and "." in plain:
         return [there, plain, os.path.join("**", plain)]
     return []
@@ -167,7 +159,6 @@ def check_rules():
             gone = [name for name in names if found(path) and not re.search(rf"\bfn {name}\b", read(path))]
             wrong += [f"RULES.md: {heading}: {name} is not in {path}" for name in gone]
     wrong += [f"RULES.md: {heading}: no clause of its code cites {name}" for heading, name in uncited()]
-    wrong += ["RULES.md: its clauses are not what ./dev folders writes"] if are_clauses_stale() else []
     return len(sections), wrong
 
 
@@ -198,13 +189,10 @@ def check_topics():
 # PROOFS
 
 def check_proofs():
-    wrong = [f"{path}: it is not what ./dev folders writes" for path in stale_lists()]
-    told = [(crate, name, said) for crate in CRATES for name, said, _ in laws(crate)]
+    pages, told = proof_pages(), [(crate, name, said) for crate in CRATES for name, said, _ in laws(crate)]
+    wrong = [f"PROOFS.md: it has no link to {path}" for path in pages if f"](../{path})" not in read("docs/PROOFS.md")]
     wrong += [f"crates/{crate}/src/laws.rt: {name} has no comment" for crate, name, said in told if not said]
-    unplaced = {crate for crate, *_ in told if marks(crate)[0] not in read("docs/PROMISES.md")}
-    wrong += [f"PROMISES.md: the laws of {crate} have no place" for crate in sorted(unplaced)]
-    functions = [name for crate in CRATES for name, *_ in public_functions(crate)]
-    return len(told) + len(functions) + sum(len(lemma_files(crate)) for crate in CRATES), wrong
+    return len(told) + len(pages), wrong
 
 
 # EDITS
@@ -364,15 +352,23 @@ def check_crates():
     return len(needed), wrong
 
 
+# WHAT IS WRITTEN
+
+def check_written():
+    try:
+        return len(written()), [f"{path}: it is not what ./dev folders writes" for path in stale()]
+    except ValueError as problem:
+        return 1, [str(problem)]
+
+
 # FOLDERS
 
 def check_folders():
-    wrong = [f"{folder}/README.md: it is not what ./dev folders writes" for folder in stale()]
     files = [(folder, name) for folder in long_folders() for name in sources(folder)]
-    wrong += [f"{folder}/{name}: it does not begin with a sentence" for folder, name in files if not sentence(folder, name)]
+    wrong = [f"{folder}/{name}: it does not begin with a sentence" for folder, name in files if not sentence(folder, name)]
     folders = [path for path in found("**/") if not re.search(r"(^|/)(bin|dist|out|proofs|target|__pycache__)(/|$)", path)]
     for folder in folders:
-        count = sum(os.path.isfile(os.path.join(ROOT, path)) for path in found(f"{folder}/*"))
+        count = sum(os.path.isfile(os.path.join(TOP, path)) for path in found(f"{folder}/*"))
         if count > MOST_FILES and not found(f"{folder}/README.md"):
             wrong.append(f"{folder}: {count} files, and no README.md")
     return len(long_folders()), wrong
@@ -381,9 +377,7 @@ def check_folders():
 # PICTURE
 
 def check_picture():
-    wrong = ["docs/ARCHITECTURE.md: the picture is not what ./dev folders draws"] if is_stale() else []
-    wrong += [f"tests/lib/picture.py: {place} is not on the way" for place in unreached()]
-    return drawn().count("\n"), wrong
+    return len(drawn()), [f"tests/lib/picture.py: {place} is not on the way" for place in unreached()]
 
 
 # HEADLINE
@@ -392,7 +386,6 @@ def check_headline():
     reached = headline.closure(headline.HEADLINE)
     wrong = [f"tests/lib/headline.py: {path} is in the order and not reached, or reached and not there" for path in headline.unlisted()]
     wrong += [f"{headline.path_of(place)}: Headline.antt reaches it" for place in (headline.BYTES, headline.READING) if place in reached]
-    wrong += ["docs/ARCHITECTURE.md: the lists are not what ./dev folders writes"] if headline.is_stale() else []
     return len(reached), wrong
 
 
@@ -406,11 +399,10 @@ def check_scripts():
 
 
 CHECKS = {"paths": check_paths, "rules": check_rules, "topics": check_topics,
-          "laws, functions and lemma files": check_proofs, "lemma files": check_lemmas, "edits": check_edits,
-          "lines": check_lines, "kits": check_kits, "versions": check_versions, "machines": check_machines,
-          "crates of a user": check_crates, "folders": check_folders,
-          "lines of the picture": check_picture, "files that the headline stands on": check_headline,
-          "scripts": check_scripts}
+          "laws and folders of proofs": check_proofs, "lemma files": check_lemmas, "edits": check_edits, "lines": check_lines,
+          "kits": check_kits, "versions": check_versions, "machines": check_machines, "crates of a user": check_crates,
+          "documents that are written": check_written, "folders": check_folders, "lines of the picture": check_picture,
+          "files that the headline stands on": check_headline, "scripts": check_scripts}
 
 
 def main():

@@ -27,7 +27,7 @@ sys.path.insert(0, os.path.join(os.path.dirname(os.path.abspath(__file__)), "lib
 sys.dont_write_bytecode = True
 from citing import changed, contracts, file_of, leads_to, lemmas, statements
 from commands import load_dev
-from documents import found, read
+from repository import found, read
 from rules import files_in, places_in, rules, tests_in
 
 CHOSEN = 10

@@ -1,11 +1,10 @@
 """Which definitions a contract cites, and which a definition is made of. A definition is its crate, file and name."""
 
 import functools
-import glob
-import os
 import re
 
-TOP = os.path.dirname(os.path.dirname(os.path.dirname(os.path.abspath(__file__))))
+from repository import found, read
+
 WORD = re.compile(r"(?<![\w.'-])([A-Za-z_][\w-]*)(?:\.([A-Za-z_][\w-]*))?")
 FUNCTION = re.compile(r' *(?:pub(?:\(\w+\))? )?(?:const )?(?:unsafe )?(?:extern "C" )?fn (\w+)')
 CLAUSE = re.compile(r"^ +(?:ghost|requires|ensures)\b", re.M)
@@ -13,11 +12,6 @@ CLAUSE = re.compile(r"^ +(?:ghost|requires|ensures)\b", re.M)
 NAMES = re.compile(r"Rattle\.(\w+)\.specs\.([\w.]+)\.\{([^}]*)\}")
 FILE = re.compile(r"Rattle\.(\w+)\.specs\.([\w.]+)(?: as (\w+))?(?=[;\n])")
 BEGINS = re.compile(r"(?:(?:abbrev|unfoldable|pub|data|record) )+(?!use )([^\s:]+)(?= |$)|([\w-]+) :")
-
-
-def read(path):
-    with open(os.path.join(TOP, path), encoding="utf-8") as text:
-        return text.read()
 
 
 def file_of(path):
@@ -65,19 +59,19 @@ def heads(text):
 @functools.cache
 def contracts(path):
     """Each function of a file of code with the definitions that its contract cites."""
-    text, found = read(path), {}
+    text, every = read(path), {}
     names, files = used(text)
     for name, head in heads(text):
         clauses = CLAUSE.search(head)
-        found.setdefault(name, set()).update(cited(head[clauses.start() :], names, files) if clauses else ())
-    return found
+        every.setdefault(name, set()).update(cited(head[clauses.start() :], names, files) if clauses else ())
+    return every
 
 
 @functools.cache
 def clauses(path):
     """Each clause of a file of code that says what a function returns or leaves: the function, how far it is known (0 if it is
     public, 1 in the crate, 2 in the file), the clause's name if it has one, and the definitions that it cites."""
-    text, found = read(path), []
+    text, every = read(path), []
     names, files = used(text)
     for name, head in heads(text):
         starts = [clause.start() for clause in CLAUSE.finditer(head)]
@@ -85,8 +79,8 @@ def clauses(path):
             ensures = re.match(r" +ensures\*?(?: (\w+))? \{", head[begin:end])
             if ensures:
                 known = [head.lstrip().startswith(word) for word in ("pub ", "pub(crate) ", "")].index(True)
-                found.append((name, known, ensures[1], set(cited(head[begin:end], names, files))))
-    return found
+                every.append((name, known, ensures[1], set(cited(head[begin:end], names, files))))
+    return every
 
 
 def changed(path):
@@ -121,14 +115,14 @@ def statements(text):
 @functools.cache
 def made_of():
     """For each definition of the repository those that it names."""
-    found = {}
-    for path in glob.glob("crates/*/specs/**/*.antt", root_dir=TOP, recursive=True):
+    made = {}
+    for path in found("crates/*/specs/**/*.antt"):
         text = read(path)
         names, files = used(text)
         own = dict(statements(text))
         here = {name: (*file_of(path), name) for name in own}
-        found.update({here[name]: set(cited(own[name], {**names, **here}, files)) for name in own})
-    return found
+        made.update({here[name]: set(cited(own[name], {**names, **here}, files)) for name in own})
+    return made
 
 
 def leads_to(begun, wanted):

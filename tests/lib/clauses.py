@@ -1,20 +1,15 @@
 """The clauses that docs/RULES.md names under each heading: for each of the rule's definitions one of the code that cites it.
 
-`./dev folders` writes them, and tests/documents.py fails if they are stale, or if no clause cites a definition.
+tests/documents.py fails if no clause cites a definition.
 """
 
-import os
 import re
 
 from citing import clauses, file_of, leads_to, lemmas
-from rules import TOP, files_in, places_in, rules
+from repository import found
+from rules import files_in, places_in, rules
 
-PATH = "docs/RULES.md"
 LINE = re.compile(r"(^\*Definition:\*.*\n)(?:\n\*Clauses:\*.*\n)?", re.M)
-
-
-def is_there(path):
-    return os.path.exists(os.path.join(TOP, path))
 
 
 def citing(codes, definition):
@@ -25,7 +20,7 @@ def citing(codes, definition):
 
 def words_through(parts, definition):
     """The words of a rule's "Through" that are tied to a definition, as walks.py has it."""
-    files = [path for path in places_in(parts["Through"]) if "/proofs/" in path and is_there(path)]
+    files = [path for path in places_in(parts["Through"]) if "/proofs/" in path and found(path)]
     shown = [named for path in files for named in lemmas(path).values()]
     for path, names in files_in(parts["Through"]):
         for between in ((*file_of(path), name) for name in names):
@@ -35,7 +30,7 @@ def words_through(parts, definition):
 
 def clause_of(parts, definition):
     """The clause for a definition: what it cites, its function and its name; nothing if there is none."""
-    codes = [path for path, _ in files_in(parts["Code"]) if is_there(path)]
+    codes = [path for path, _ in files_in(parts["Code"]) if found(path)]
     for cited in (definition, *words_through(parts, definition)):
         for function, clause in citing(codes, cited)[:1]:
             return cited[-1], function, clause
@@ -62,26 +57,7 @@ def uncited():
     return [(heading, name) for heading, parts in rules() for name in told(parts)[1]]
 
 
-def read():
-    with open(os.path.join(TOP, PATH), encoding="utf-8") as text:
-        return text.read()
-
-
-def written():
-    """RULES with its clauses as they would be written now."""
+def with_clauses(text):
+    """The text of RULES with its clauses as they would be written now."""
     lines = iter([told(parts)[0] for _, parts in rules() if parts["Definition"]])
-    return LINE.sub(lambda line: f"{line[1]}\n*Clauses:* {next(lines, '')}.\n", read())
-
-
-def is_stale():
-    return read() != written()
-
-
-def write_clauses():
-    """Writes them if they are stale, and returns the paths that were written."""
-    text = written()
-    if text == read():
-        return []
-    with open(os.path.join(TOP, PATH), "w", encoding="utf-8") as out:
-        out.write(text)
-    return [PATH]
+    return LINE.sub(lambda line: f"{line[1]}\n*Clauses:* {next(lines, '')}.\n", text)

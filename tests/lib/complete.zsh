@@ -1,4 +1,5 @@
-# complete.zsh FOLDER LINE: what an interactive zsh completes a line to, with the functions of a folder. A word a line.
+# What an interactive zsh completes a line to, with the functions of a folder, as completing.py asks: complete.zsh FOLDER LINE.
+# A word a line.
 zmodload zsh/zpty
 zpty z zsh -f -i
 zpty -w z "PROMPT= RPROMPT=; stty -echo; unsetopt zle_bracketed_paste; fpath=(${(q)1} \$fpath); autoload -Uz compinit; compinit -u -D"

@@ -8,8 +8,8 @@ import re
 import subprocess
 from email.utils import parsedate_to_datetime
 
-from documents import PATH, found, read, words_of
-from library import TOP
+from documents import PATH, words_of
+from repository import TOP, found, read
 
 # Of these lintian is not asked: the first finds words in the bytes of instructions, and so what is said of it comes and goes.
 SUPPRESSED = "spelling-error-in-binary,unused-override"

@@ -1,13 +1,16 @@
-"""The README.md of a folder of code or definitions: a table of its files, with what the first line of each says of it."""
+"""The README.md of a folder of code, definitions or shared scripts: a table of its files, with the first sentence of each."""
 
-import glob
 import os
 import re
 
-TOP = os.path.dirname(os.path.dirname(os.path.dirname(os.path.abspath(__file__))))
+from repository import TOP, found, read
+
 MOST_FILES = 8  # a folder with more has a README.md
-ENDINGS = (".antt", ".rt")
-WHAT = {"src": "The code of `{crate}`", "specs": "The definitions of `{crate}`", "inside": "What only the running code of `{crate}` needs"}
+# How a file begins, by its ending, and the marks of the lines there.
+FRONTS = {".antt": r"(?:-- [^\n]*\n)+", ".rt": r"(?://! [^\n]*\n)+", ".zsh": r"(?:# [^\n]*\n)+", ".py": r'""".*?(?:"""|\n\n)'}
+MARKS = re.compile(r'^(?:--|//!|#) |"""', re.M)
+WHAT = {"src": "The code of `{crate}`", "specs": "The definitions of `{crate}`", "inside": "What only the running code of `{crate}` needs",
+        "lib": "What the scripts share"}
 # What a README.md says before its table.
 NOTES = {
     "crates/yaml_scan/specs": 'Begin with `Headline.antt`. "What the headline stands on" in `docs/ARCHITECTURE.md` has the files under it in the '
@@ -18,28 +21,20 @@ NAMELESS = {"Lib.antt": "The list of the modules.", "tests.rt": "Tests of the cr
 
 
 def sources(folder):
-    """The files of code or of definitions that are in a folder."""
-    return sorted(name for name in os.listdir(os.path.join(TOP, folder)) if name.endswith(ENDINGS))
+    """The files of a folder that begin with a sentence."""
+    return sorted(name for name in os.listdir(os.path.join(TOP, folder)) if os.path.splitext(name)[1] in FRONTS)
 
 
 def long_folders():
-    """The folders of code and of definitions that have more than eight files."""
-    found = [path for pattern in ("src", "specs", "specs/*") for path in glob.glob(os.path.join(TOP, "crates", "*", pattern))]
-    paths = sorted(os.path.relpath(path, TOP) for path in found if os.path.isdir(path))
-    return [path for path in paths if len(sources(path)) > MOST_FILES]
+    """The folders of code, definitions and shared scripts that have more than eight files."""
+    paths = [path for pattern in ("crates/*/src/", "crates/*/specs/", "crates/*/specs/*/", "tests/lib/") for path in found(pattern)]
+    return sorted(path for path in paths if len(sources(path)) > MOST_FILES)
 
 
 def sentence(folder, name):
     """The first sentence of the comment at the front of a file."""
-    with open(os.path.join(TOP, folder, name), encoding="utf-8") as text:
-        lines = text.read().split("\n")
-    mark = "//!" if name.endswith(".rt") else "--"
-    front = []
-    for line in lines:
-        if not line.startswith(mark + " "):
-            break
-        front.append(line[len(mark) + 1 :].strip())
-    said = re.match(r".*?[.:](?= [A-Z]|$)", " ".join(front))
+    front = re.match(r"(?:#!/[^\n]*\n)?(" + FRONTS[os.path.splitext(name)[1]] + ")", read(f"{folder}/{name}"), re.S)
+    said = re.match(r".*?[.:](?= [A-Z]|$)", " ".join(MARKS.sub("", front[1]).split())) if front else None
     return said[0] if said else NAMELESS.get(name, "")
 
 
@@ -52,19 +47,6 @@ def listing(folder):
     return f"# {head}\n\n{note}`./dev folders` writes this table, from the first sentence of each file.\n\n| File | What it has |\n|---|---|\n{rows}"
 
 
-def stale():
-    """The folders whose README.md is missing, or not as it would be written now."""
-    for folder in long_folders():
-        path = os.path.join(TOP, folder, "README.md")
-        text = open(path, encoding="utf-8").read() if os.path.exists(path) else None
-        if text != listing(folder):
-            yield folder
-
-
-def write_all():
-    """Writes those that are stale, and returns their paths."""
-    written = [f"{folder}/README.md" for folder in stale()]
-    for path in written:
-        with open(os.path.join(TOP, path), "w", encoding="utf-8") as out:
-            out.write(listing(os.path.dirname(path)))
-    return written
+def listings():
+    """Each README.md by its path, as it would be written now."""
+    return {f"{folder}/README.md": listing(folder) for folder in long_folders()}

@@ -10,9 +10,8 @@ import os
 import re
 
 from folders import sentence
+from repository import between, found, read
 
-TOP = os.path.dirname(os.path.dirname(os.path.dirname(os.path.abspath(__file__))))
-PAGE = os.path.join(TOP, "docs", "ARCHITECTURE.md")
 BEGIN, END = "<!-- listed by ./dev folders -->", "<!-- end of what is listed -->"
 HEADLINE, BYTES, READING = ("yaml_scan", "Headline"), ("yaml_scan", "Decoded"), ("yaml_scan", "SourceOf")
 # Names of yaml_scan, and others by crate and name.
@@ -27,21 +26,16 @@ def path_of(place):
     return f"crates/{place[0]}/specs/{place[1].replace('.', '/')}.antt"
 
 
-def read(path):
-    with open(os.path.join(TOP, path), encoding="utf-8") as text:
-        return text.read()
-
-
 @functools.cache
 def closure(start):
     """A file of definitions and all that it reaches."""
-    found, left = [], [start]
+    reached, left = [], [start]
     while left:
         place = left.pop(0)
-        if place not in found and os.path.exists(os.path.join(TOP, path_of(place))):
-            found.append(place)
+        if place not in reached and found(path_of(place)):
+            reached.append(place)
             left += USE.findall(read(path_of(place)))
-    return found
+    return reached
 
 
 def ordered():
@@ -63,8 +57,8 @@ def entry(place):
     return f"`{name}`, {lines([place])} lines: {sentence(*os.path.split(path_of(place)))}"
 
 
-def listed():
-    """The two lists, from mark to mark."""
+def with_lists(text):
+    """The text of the page with the two lists as they would be written now."""
     first = ordered()
     more = [place for place in closure(BYTES) if place not in first]
     crates = list(dict.fromkeys(crate for crate, _ in more))
@@ -75,22 +69,4 @@ def listed():
         for crate in crates for own in [[place for place in more if place[0] == crate]]
     ]
     further = f"What bytes spell is in {len(more)} further files with {lines(more):,} lines:"
-    return "\n".join([BEGIN, "", *rows, "", total, "", further, "", *of_bytes, "", END])
-
-
-def is_stale():
-    """Whether the page has not these lists, or has them twice."""
-    return read(PAGE).count(listed()) != 1
-
-
-def list_all():
-    """Writes the lists between their two marks, if they are stale, and returns the path of the page then."""
-    if not is_stale():
-        return []
-    before, begun, rest = read(PAGE).partition(BEGIN)
-    _, ended, after = rest.partition(END)
-    if not begun or not ended:
-        raise ValueError("docs/ARCHITECTURE.md: the two marks of the lists are not there")
-    with open(PAGE, "w", encoding="utf-8") as out:
-        out.write(before + listed() + after)
-    return ["docs/ARCHITECTURE.md"]
+    return between(text, BEGIN, [*rows, "", total, "", further, "", *of_bytes], END)

@@ -1,33 +1,24 @@
-"""The lists of laws in docs/PROMISES.md, and docs/PROOFS.md, as the sources have them.
+"""The lists of laws in docs/PROMISES.md, and the README.md of the proofs of each crate, as the sources have them.
 
-A law is told once, by the comment of its function in `src/laws.rt`: PROMISES has these comments, PROOFS only says where the
-proof is. `./dev folders` writes both, and tests/documents.py fails if they are stale.
+A law is told once, by the comment of its function in `src/laws.rt`: PROMISES has these comments, the README.md only says where
+the proof is.
 """
 
-import glob
 import itertools
 import os
 import re
 
 from folders import sentence
+from repository import between, found, read
 
-TOP = os.path.dirname(os.path.dirname(os.path.dirname(os.path.abspath(__file__))))
-PROMISES, PROOFS = "docs/PROMISES.md", "docs/PROOFS.md"
+PROMISES = "docs/PROMISES.md"
 CRATES = ["yaml_text", "yaml_lexeme", "yaml_scan", "yaml_c", "yamltok", "testbench", "unit_tests", "workloads"]
 OF_TESTS = ["testbench", "unit_tests", "workloads"]  # they promise nothing to others
 FUNCTION = re.compile(r'((?:^ *///.*\n)*)((?:^ *#\[.*\n)*)^ *pub (?:unsafe )?(?:extern "C" )?fn (\w+)', re.M)
 IMPORT = re.compile(r"^use Rattle\.(\w+)\.proofs\.([\w.]+)", re.M)
 USING = re.compile(r"crate::proofs::((?:\w+::)*\w+)::\w+")
+IMPL = re.compile(r"^(?:impl(?:<[^>]*>)? (\w+)|\})", re.M)  # the type of what follows, or none
 NUMBERED = re.compile(r"(\w+)_(number|order|hash)")  # the laws of one enum
-
-
-def read(path):
-    with open(os.path.join(TOP, path), encoding="utf-8") as text:
-        return text.read()
-
-
-def found(pattern):
-    return sorted(os.path.relpath(path, TOP) for path in glob.glob(os.path.join(TOP, pattern), recursive=True))
 
 
 def comment(text):
@@ -73,25 +64,19 @@ def cited(name, clauses, with_path):
 
 
 def law_table(crate):
-    rows = []
+    yield from ("| Law | By the contract of |", "|---|---|")
     for members in grouped(crate):
         by = [cited(name, clauses, at == 0) for at, (name, _, clauses) in enumerate(members)]
-        rows.append(f"| {' '.join(said for _, said, _ in members)} | {', '.join(by)} |")
-    return "\n".join(["| Law | By the contract of |", "|---|---|", *rows])
-
-
-def marks(crate):
-    return f"<!-- laws of {crate}, written by ./dev folders -->", f"<!-- end of the laws of {crate} -->"
+        yield f"| {' '.join(said for _, said, _ in members)} | {', '.join(by)} |"
 
 
 def promises():
-    """PROMISES with its lists of laws as they would be written now."""
+    """PROMISES with its lists of laws as they would be written now: a list for each crate that has laws."""
     text = read(PROMISES)
     for crate in CRATES:
-        begin, end = marks(crate)
-        if begin in text:
-            before, _, rest = text.partition(begin)
-            text = f"{before}{begin}\n\n{law_table(crate)}\n\n{end}{rest.partition(end)[2]}"
+        if found(f"crates/{crate}/src/laws.rt"):
+            begin, end = f"<!-- laws of {crate}, written by ./dev folders -->", f"<!-- end of the laws of {crate} -->"
+            text = between(text, begin, law_table(crate), end)
     return text
 
 
@@ -115,17 +100,20 @@ def exported(crate):
 
 
 def functions(crate):
-    """The public functions of a crate that promises something: name, its file, and the attributes before it."""
+    """The public functions of a crate that promises something: name, after that of its type, its file, and the attributes before
+    it."""
     for path in [] if crate in OF_TESTS else exported(crate):
-        for at in FUNCTION.finditer(read(path)):
-            yield at[3], path, at[2]
+        text = read(path)
+        for at in FUNCTION.finditer(text):
+            kind = ["", *IMPL.findall(text[: at.start()])][-1]
+            yield f"{kind}::{at[3]}".removeprefix("::"), path, at[2]
 
 
 def proof_files(crate, path, name):
     """What is written by hand of the proof of a function."""
     topic = os.path.basename(path)[:-3]
     folder = f"crates/{crate}/proofs/" + ("" if topic in ("lib", "main") else topic + "/")
-    return found(f"{folder}{name}/*.antt") + found(f"{folder}*/{name}/*.antt")
+    return found(f"{folder}{name.replace('::', '/')}/*.antt")
 
 
 def rests_on(crate, files, attributes):
@@ -136,56 +124,44 @@ def rests_on(crate, files, attributes):
     return sorted({name for name in names if name in own})
 
 
-def row(crate, name, path, attributes):
-    files = proof_files(crate, path, name)
-    entry = ", ".join(f"`{file}`" for file in files) or f"`{path}`"
-    rests = ", ".join(f"`{lemma}`" for lemma in rests_on(crate, files, attributes))
-    return f"| `{name}` | {entry} | {rests} |"
+def listed(paths, crate):
+    """Files, as the README.md in the proofs of a crate names them."""
+    return ", ".join(f"`{os.path.relpath(path, f'crates/{crate}/proofs')}`" for path in paths)
 
 
-def table(title, rows):
-    return [f"| {title} | Where | Rests on |", "|---|---|---|", *rows, ""] if rows else []
+def proved(crate, title, every):
+    """What is proved by hand or rests on lemmas in a table, and all else in a sentence."""
+    rows, alone = [], {}
+    for name, path, attributes in every:
+        files = proof_files(crate, path, name)
+        rests = rests_on(crate, files, attributes)
+        if files or rests:
+            rows.append(f"| `{name}` | {listed(files or [path], crate)} | {', '.join(f'`{lemma}`' for lemma in rests)} |")
+        else:
+            alone.setdefault(path, []).append(f"`{name}`")
+    others = "; ".join(f"{', '.join(names)} in {listed([path], crate)}" for path, names in alone.items())
+    if rows:
+        yield from (f"## {title}", "", "| Name | Where | Rests on |", "|---|---|---|", *rows, "")
+    if others:
+        yield from (f"The prover proves these alone, and they rest on no lemma file: {others}.", "")
 
 
-def lemma_lines(crate):
-    """The files of lemmas, folder by folder."""
+def lemma_rows(crate):
+    """The folders of lemmas, each with its files."""
     for folder, paths in itertools.groupby(lemma_files(crate), os.path.dirname):
-        is_top = folder == f"crates/{crate}/proofs"
-        yield f"In `{folder}/`:" if is_top else f"In `{folder}/`: {head(folder + '.antt')}"
-        yield ""
-        for path in paths:
-            yield f"- `{os.path.basename(path)[: -len('.antt')]}`: {head(path)}"
-        yield ""
+        if folder != f"crates/{crate}/proofs":
+            yield f"| `{os.path.basename(folder)}/` | {head(folder + '.antt')} |"
+        yield from (f"| {listed([path], crate)} | {head(path)} |" for path in paths)
 
 
-def section(crate):
-    law_path = f"crates/{crate}/src/laws.rt"
-    root = (found(f"crates/{crate}/src/lib.rt") or found(f"crates/{crate}/src/main.rt"))[0]
-    lines = [f"## {crate}", "", head(root), ""]
-    of_laws = [row(crate, name, law_path, "") for name, _, _ in laws(crate)]
-    lines += [f"### Laws of {crate}", "", *table("Law", of_laws)] if of_laws else []
-    of_functions = [row(crate, *function) for function in functions(crate)]
-    lines += [f"### Public functions of {crate}", "", *table("Function", of_functions)] if of_functions else []
-    lemmas = list(lemma_lines(crate))
-    return lines + ([f"### Lemma files of {crate}", "", *lemmas] if lemmas else [])
+def proof_page(crate):
+    """The text of the README.md in the proofs of a crate."""
+    of_laws = proved(crate, "Laws", [(name, f"crates/{crate}/src/laws.rt", "") for name, _, _ in laws(crate)])
+    lines = [f"# The proofs of `{crate}`", "", "`docs/PROOFS.md` says how to read them. `./dev folders` writes this page.", ""]
+    lines += [*of_laws, *proved(crate, "Public functions", functions(crate))]
+    return "\n".join([*lines, "## Lemma files", "", "| File | What it shows |", "|---|---|", *lemma_rows(crate), ""])
 
 
-def proofs():
-    """PROOFS as it would be written now; what comes before its first section is written by hand."""
-    front = read(PROOFS).partition("\n## ")[0].rstrip("\n")
-    return "\n".join([front, "", *(line for crate in CRATES for line in section(crate))]).rstrip("\n") + "\n"
-
-
-def stale_lists():
-    """The documents of the two that are not as they would be written now."""
-    return [path for path, text in ((PROMISES, promises()), (PROOFS, proofs())) if read(path) != text]
-
-
-def write_lists():
-    """Writes those that are stale, and returns their paths."""
-    texts = {PROMISES: promises(), PROOFS: proofs()}
-    written = stale_lists()
-    for path in written:
-        with open(os.path.join(TOP, path), "w", encoding="utf-8") as out:
-            out.write(texts[path])
-    return written
+def proof_pages():
+    """The README.md in the proofs of each crate that has files of lemmas, by its path."""
+    return {f"crates/{crate}/proofs/README.md": proof_page(crate) for crate in CRATES if lemma_files(crate)}

@@ -3,9 +3,9 @@
 import os
 import subprocess
 
-TOP = os.path.dirname(os.path.dirname(os.path.dirname(os.path.abspath(__file__))))
-with open(os.path.join(TOP, "VERSION"), encoding="ascii") as text:
-    VERSION = text.read().strip()
+from repository import TOP, read
+
+VERSION = read("VERSION").strip()
 
 
 def build_library():

@@ -15,7 +15,7 @@ import os
 import re
 import shutil
 
-TOP = os.path.dirname(os.path.dirname(os.path.dirname(os.path.abspath(__file__))))
+from repository import TOP
 
 CALLS = os.path.join(TOP, "tests", "by_hand", "calls")
 NUMBER_IN_C = r"""#include <stdio.h>

@@ -7,12 +7,11 @@ and the modules that are shown; what is between them is followed and not shown.
 """
 
 import functools
-import glob
 import os
 import re
 
-TOP = os.path.dirname(os.path.dirname(os.path.dirname(os.path.abspath(__file__))))
-PAGE = os.path.join(TOP, "docs", "ARCHITECTURE.md")
+from repository import between, found, read
+
 BEGIN, END = "<!-- drawn by ./dev folders -->", "<!-- end of what is drawn -->"
 CALL = ("yamltok", "run", "run")
 LEFT_OUT = {("yamltok", "answer", "list_decoded"), ("yamltok", "answer", "list_called")}
@@ -29,11 +28,6 @@ CLAUSE = re.compile(r" +(?:ghost|requires|ensures)\b")
 CALLS = re.compile(r"(\.?)\b(\w+)(?:::<[^>]*>)?(?:::(\w+))?(?:::<[^>]*>)?!?\(")
 
 
-def read(*path):
-    with open(os.path.join(TOP, *path), encoding="utf-8") as text:
-        return text.read()
-
-
 # CRATES
 
 @functools.cache
@@ -46,14 +40,14 @@ def uses():
 
 def layers():
     """The crates in layers, the highest first: each uses only crates of lower ones."""
-    left, found = uses(), []
+    left, made = uses(), []
     while left:
         layer = [crate for crate, others in left.items() if not set(others) & set(left)]
         if not layer:
             raise ValueError("crates.txt: crates use each other")
-        found.insert(0, layer)
+        made.insert(0, layer)
         left = {crate: others for crate, others in left.items() if crate not in layer}
-    return found
+    return made
 
 
 def layer_lines():
@@ -74,7 +68,7 @@ def body_of(lines):
 @functools.cache
 def module(crate, name):
     """The path of each name that the `use` lines of a module bring, and the body of each of its functions, the first of a name."""
-    text, brought, lines, current, margin = read("crates", crate, "src", f"{name}.rt"), {}, {}, None, ""
+    text, brought, lines, current, margin = read(f"crates/{crate}/src/{name}.rt"), {}, {}, None, ""
     for path, names in re.findall(r"^(?:pub )?use ([\w:]+?)::(\w+|\{[^}]*\});", text, re.M):
         brought.update({word: path for word in re.findall(r"\w+", names)})
     for line in text.split("\n"):
@@ -85,7 +79,7 @@ def module(crate, name):
             lines.setdefault(current, []).append(line)
         if line.startswith((margin + "}", "}")):
             current = None
-    return brought, {function: body_of(found) for function, found in lines.items()}
+    return brought, {function: body_of(own) for function, own in lines.items()}
 
 
 def home(crate, path, name):
@@ -96,8 +90,7 @@ def home(crate, path, name):
     if first in uses():
         handed = module(first, "lib")[0]
         return home(first, handed[name], name) if name in handed else None
-    is_here = os.path.exists(os.path.join(TOP, "crates", crate, "src", f"{first}.rt"))
-    return (crate, first) if is_here else None
+    return (crate, first) if found(f"crates/{crate}/src/{first}.rt") else None
 
 
 def called(crate, name, function):
@@ -121,7 +114,7 @@ def called(crate, name, function):
 def made_by(crate, name, function):
     """If a trait of another crate only declares a function: those of that name in the crate of the call, where it is brought."""
     if crate != CALL[0] and module(crate, name)[1].get(function, "") is None:
-        for path in sorted(glob.glob(os.path.join(TOP, "crates", CALL[0], "src", "*.rt"))):
+        for path in found(f"crates/{CALL[0]}/src/*.rt"):
             other = os.path.basename(path)[: -len(".rt")]
             brought, functions = module(CALL[0], other)
             if functions.get(function) and (crate, name) in [home(CALL[0], path, word) for word, path in brought.items()]:
@@ -163,28 +156,15 @@ def way_lines(below, functions, place=None, depth=0):
 # THE PAGE
 
 def drawn():
-    return "\n".join([BEGIN, "", "```text", *layer_lines(), "", *way_lines(*way()), "```", "", END])
+    return [*layer_lines(), "", *way_lines(*way())]
 
 
-def is_stale():
-    """Whether the page has not this picture, or has it twice."""
-    return read("docs", "ARCHITECTURE.md").count(drawn()) != 1
+def with_picture(text):
+    """The text of the page with the picture as it would be drawn now."""
+    return between(text, BEGIN, ["```text", *drawn(), "```"], END)
 
 
 def unreached():
     """The modules that are to be shown and that no call leads to."""
     every = {(crate, name) for crate, names in SHOWN.items() for name in names.split()}
     return sorted("/".join(place) for place in every - set(way()[0]))
-
-
-def draw():
-    """Draws the picture between its two marks, if it is stale, and returns the path of the page then."""
-    if not is_stale():
-        return []
-    before, begun, rest = read("docs", "ARCHITECTURE.md").partition(BEGIN)
-    _, ended, after = rest.partition(END)
-    if not begun or not ended:
-        raise ValueError("docs/ARCHITECTURE.md: the two marks of the picture are not there")
-    with open(PAGE, "w", encoding="utf-8") as out:
-        out.write(before + drawn() + after)
-    return ["docs/ARCHITECTURE.md"]

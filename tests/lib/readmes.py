@@ -9,8 +9,8 @@ import os
 import re
 import shutil
 
-from documents import found, read
 from places import make_kit
+from repository import found, read
 from worked import rows
 
 READMES = ["ffi/README.md", "rust/README.md", "python/README.md", "uses/*/README.md", "bench/README.md", "README.md"]

@@ -1,9 +1,9 @@
 """The rules of docs/RULES.md: what the line under each heading names, part by part."""
 
-import os
 import re
 
-TOP = os.path.dirname(os.path.dirname(os.path.dirname(os.path.abspath(__file__))))
+from repository import read
+
 # "Through" is there only if a contract does not cite the definition itself.
 PARTS = ("Definition", "Code", "Through", "Proofs", "Shown by")
 PART = re.compile(r"\*(" + "|".join(PARTS) + r"):\*")
@@ -11,8 +11,7 @@ PART = re.compile(r"\*(" + "|".join(PARTS) + r"):\*")
 
 def front_and_sections():
     """What stands before the first heading, and of each heading its words and what stands under it."""
-    with open(os.path.join(TOP, "docs", "RULES.md"), encoding="utf-8") as text:
-        front, *sections = re.split(r"^## ", text.read(), flags=re.M)
+    front, *sections = re.split(r"^## ", read("docs/RULES.md"), flags=re.M)
     return front, [(section.partition("\n")[0], section.partition("\n")[2]) for section in sections]
 
 

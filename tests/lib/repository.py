@@ -1,0 +1,24 @@
+"""The files of this repository, by their paths from its top, and what of a document stands between two marks."""
+
+import glob
+import os
+
+TOP = os.path.dirname(os.path.dirname(os.path.dirname(os.path.abspath(__file__))))
+
+
+def read(path):
+    with open(os.path.join(TOP, path), encoding="utf-8") as text:
+        return text.read()
+
+
+def found(pattern):
+    """The files and folders of a pattern."""
+    return sorted(os.path.relpath(path, TOP) for path in glob.glob(os.path.join(TOP, pattern), recursive=True))
+
+
+def between(text, begin, lines, end):
+    """A text with these lines between its two marks, each of which has to stand there once."""
+    if text.count(begin) != 1 or text.count(end) != 1:
+        raise ValueError(f"not once in its document: {begin} or {end}")
+    before, _, rest = text.partition(begin)
+    return "\n".join([before + begin, "", *lines, "", end + rest.partition(end)[2]])
