@@ -1,4 +1,4 @@
-//! A place that moves through a text.
+//! The cursor: a place that moves through the bytes of a text.
 ghost use Rattle.std.specs.Prelude.{ℕ, min, ◌≡◌, ◌+◌, ◌^◌, ◌<◌, ◌≤◌, length, slice_index, take, drop, false, true};
 ghost use Rattle.std.specs.Prelude.{IfSome, None, nat_lt};
 ghost use Rattle.std.specs.Char.{len_utf8};

@@ -1,4 +1,5 @@
--- The running code: what a scanner, its queue and its slots hold. No contract of a public call needs these.
+-- The running code: what a scanner, its queue and its slots hold. Contracts of public calls need only how a parser is
+-- seen and kept (Ready.antt and Kept.antt).
 pub mod Slots
 pub mod Opened
 pub mod TextReads

@@ -1,4 +1,4 @@
-//! Runs of characters of one byte.
+//! Runs of characters of one byte, many bytes at a time.
 ghost use Rattle.std.specs.Prelude.{◌≡◌, ◌+◌, ◌<◌, ◌≤◌, true, length, drop, map};
 ghost use Rattle.std.specs.List.{prefix_len};
 ghost use Rattle.std.specs.Simd.Lanes.{mask_l, Each1};

@@ -1,4 +1,4 @@
-//! A decoded text.
+//! A decoded text, which borrows its input or keeps its own bytes.
 ghost use Rattle.std.specs.Prelude.{◌≡◌, ◌≢◌, IfSome, IsNone};
 ghost use Rattle.std.specs.Str.{chars};
 ghost use Rattle.yaml_text.specs.Chars.{utf8};

@@ -1,4 +1,4 @@
-//! Reading UTF-16.
+//! Reading UTF-16: one character at a time, or sixteen units where that is simple.
 ghost use Rattle.std.specs.Prelude.{ℕ, ◌≡◌, ◌+◌, ◌-◌, ◌*◌, ◌<◌, ◌≤◌, List, ◌++◌};
 ghost use Rattle.std.specs.Prelude.{[], ◌∷◌, encode_utf8, length, take, drop, slice_index, true, IfOk, IfErr};
 ghost use Rattle.std.specs.Prelude.{OnErr, OnOk, IfSome, IsNone, vec_capacity};

@@ -1,4 +1,5 @@
-//! Appends texts, numbers, marks and bytes to bytes. If memory is refused, the old bytes stay at the beginning.
+//! Appends texts and numbers to bytes, and writes numbers and bytes into them at a place. If memory is refused, the old
+//! bytes stay at the beginning.
 ghost use Rattle.std.specs.Prelude.{◌≡◌, ◌++◌, ◌∷◌, ◌+◌, ◌-◌, ◌*◌, ◌/◌, ◌%◌, ◌<◌, ◌≤◌, OnOk, OnErr};
 ghost use Rattle.std.specs.Prelude.{codes, drop, take, flat_map, length};
 ghost use Rattle.std.specs.Fmt.{decimal, signed_decimal};
