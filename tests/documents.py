@@ -12,7 +12,7 @@ One line of output for each check; what is wrong is printed before it. The check
   on; the laws in PROMISES.md; the clauses in RULES.md. A place in a document that is for such a part is there once.
 - rules: in RULES.md every heading has a line with a definition and a code file, and a link to it. What that line names is
   in the file that it names: a definition in parentheses, and a test. There is a clause for each definition. walks.py follows the
-  line further.
+  line further. Each module of the three crates of the library is named.
 - topics: the topic of a rule is the name of its first definition file. The line names a code file of that name, a folder or
   a file of proofs that begins with it (or says that there is none by hand), and a test whose name has it.
 - proofs: PROOFS.md has a link to the README.md of each folder of proofs that has lemmas; every law has a comment.
@@ -65,6 +65,7 @@ STAND_FOR_NAMES = {"FILE", "FUNCTION", "NAME"}
 WRITTEN_BY_SCRIPTS = {"bench/results.md", "docs/speed.svg"}
 LONGEST_LINE = 120
 MOST_LOOSE_FILES = 10
+OF_RULES = ("yaml_text", "yaml_lexeme", "yaml_scan")
 PATH = re.compile(r"(\.\./|\./)?[\w*.-]+(/[\w*.-]+)*/?")
 
 
@@ -159,6 +160,8 @@ def check_rules():
             gone = [name for name in names if found(path) and not re.search(rf"\bfn {name}\b", read(path))]
             wrong += [f"RULES.md: {heading}: {name} is not in {path}" for name in gone]
     wrong += [f"RULES.md: {heading}: no clause of its code cites {name}" for heading, name in uncited()]
+    modules = [path for crate in OF_RULES for path in found(f"crates/{crate}/src/*.rt") if not re.search(r"(tests|lib)\.rt$", path)]
+    wrong += [f"RULES.md: it does not name {path}" for path in modules if f"`{path}`" not in read("docs/RULES.md")]
     return len(sections), wrong
 
 
