@@ -3,8 +3,9 @@
 
 Each cut ends with the stream end or with one fault, and the status is 1 if there is a fault, else 0. A list of
 calls has one line for each call. (For inputs of up to 200 bytes vectors/scan.txt.gz has all the lines of each cut.)
-Of the rows that say how many steps are queued, the inputs are cut too; and after a scan and a peek of so many `[` all of them
-are queued, and the stream end, but one step more than the key limit at most. The deep rows are cut at some bytes.
+The rows decode, scan and make calls, or say how many steps are queued. The deep rows, of 100,000
+bytes, are cut at some bytes. Of 1,026 `[`, and of six with a key limit of 4, the program testbench scans and peeks once after
+each cut: all of them are queued, and the stream end, but one step more than the key limit at most.
 """
 
 import os

@@ -1,11 +1,13 @@
 #!/usr/bin/env python3
 """Compares decoding with a plain reading of the rules (lib/reading.py), on inputs near all borders: decodings.py PROGRAM.
 
-The program testbench, which is beside the given one, answers the questions. The inputs are made from a fixed seed. Each is a
-run of characters of one kind that is longer than the program looks at at a time, with a few pieces put in at random places:
+The program testbench, which is beside the given one, gives the text of each and the mark of its end, or what is wrong and where.
+Of the 132,400 inputs 74,721 are refused. 100,000 are made from a fixed seed, in UTF-8 and both forms of UTF-16. Each of these is
+a run of characters of one kind that is longer than the program looks at at a time, with a few pieces put in at random places:
 characters at the ends of ranges, octets and units that may not stand there, halves of pairs, and characters that are cut.
 Many are cut at the end too. Then each character at a border, and each unit with one octet of ASCII, is put at each place in
-ASCII of 15 to 33 units of UTF-16, since sixteen units are looked at at a time. Needs a C compiler for the last part: with every request for memory refused, UTF-8 is decoded.
+ASCII of 15 to 33 units of UTF-16, since sixteen units are looked at at a time, in both forms, whole and without the last octet.
+Needs a C compiler for the last part: with every request for memory refused, forty texts are decoded from UTF-8.
 """
 
 import os

@@ -1,11 +1,14 @@
 #!/usr/bin/env python3
 """Scans deep and long inputs with the program: deep.py PROGRAM.
 
-Depth and levels have no limit but the input's length. Each input gives the lines that are expected. In whatever way its tokens
-are taken, they are as many as follows from how often its parts are repeated (lib/deep_texts.py), and no memory is wanted at
-some size. The time of a scan grows with the input: twice the input takes at most three times as long. Where the input
-outgrows a cache of the machine, one doubling may take longer; so it is wrong only if three doublings, one after the other,
-take longer. The program `testbench`, which is beside the given one, counts the tokens and takes the times.
+Depth and levels have no limit but the input's length. An input has 100,000 openers, closers, nested sequences, keys of keys,
+mappings as keys, blank lines and so on, and gives the lines that are expected. Its tokens are taken in six ways: by scans; by a
+peek and a skip for each; by lists of scans; by one sink; in batches that are given to a sink; and by the same calls with a sink
+that has no room. Each time they are as many as follows from how often its parts are repeated (lib/deep_texts.py), and no memory
+is wanted at some size. The time of a scan grows with the input: twice the input takes at most three times as long. Where the
+input outgrows a cache of the machine, one doubling may take longer; so it is wrong only if three doublings, one after the other,
+take longer. The time is user time, the best of three runs or more, so that a busy machine makes no difference. The program
+`testbench`, which is beside the given one, counts the tokens and takes the times.
 """
 
 import math

@@ -4,7 +4,8 @@
 Both have the same name and export the same functions. A small C program (uses/libyaml/list.c) lists tokens, events and
 the nodes of documents with marks, texts, styles and flags, and the error with its words and marks. It is run with
 either library on the worked rows, on all inputs of vectors/scan.txt.gz, on texts of bench/realistic.py, on texts made
-for the ends of batches, and on the YAML files of the repository. The lists are the same, but for this:
+for the ends of batches and of the room for their texts, and on the YAML files of the repository. The lists are the same, but
+for this. Each of these differences is recognised exactly, and has to occur:
 
 - The index of a mark counts bytes of UTF-8, and libyaml's counts characters. The line and the column are the same.
 - The limit of a simple key, 1,024, is of bytes too. A key that has more bytes, and no more characters, is refused.
@@ -14,13 +15,15 @@ for the ends of batches, and on the YAML files of the repository. The lists are 
   libyaml makes of the text in front of the fault, and then the same fault; or it is all that libyaml makes of that
   text, if that ends with an error.
 - An input that is no string is read to its end before the first token. So it makes no difference in what pieces it is
-  read, and a read that fails is told before all tokens.
+  read, and a read that fails is told before all tokens. It is read from a file, and by handlers that give one byte a call and
+  more, or that fail at a call.
 
 A parser that is given up half-way has given a beginning of what it would have given. PyYAML's C loader is run over
 either library: the objects are the same, and so are the words of the errors, but for the same differences. Of a few
-small inputs each request for memory is refused in turn. Valgrind looks at a hundred inputs and some longer ones:
-scanned to their end, read in pieces, with reads that fail, and given up half-way. What needs a C compiler, libyaml-dev,
-a PyYAML that stands on libyaml's shared library, or valgrind is skipped if there is none.
+small inputs each request for memory is refused in turn; a string needs fewer than an input that is read, since it is not
+copied. Valgrind looks at a hundred inputs and some longer ones, in eleven ways each: scanned to their end, read in pieces, with
+reads that fail, and given up half-way. What needs a C compiler, libyaml-dev, a PyYAML that stands on libyaml's shared library, or
+valgrind is skipped if there is none.
 """
 
 import codecs

@@ -6,12 +6,13 @@ A copy of the repository is a checkout of a commit, and its tests/ has scripts t
 library. Instead of the Rattle kit, lib/kit.py is on the path: it leaves what the kit leaves, out of the program and the library
 that are built, and like the kit it refuses links and removes what was built. Each command follows each, and itself. All succeed,
 and what was built before is there whenever the kit is called, and at the end. The same holds if the gate fails or is broken off,
-and then ./package refuses what was not tested. .ci/run in a new clone has the gate prove the clone itself. Debian's tools make the
-same packages of the source package.
+and then ./package refuses what was not tested, and with a compiler that compiles nothing. .ci/run in a new clone has the gate
+prove the clone itself. dpkg-buildpackage makes the same packages of the source package, byte for byte.
 
 Without the kit, without a program that is needed, or in a checkout that can not be written to, each command says so in one line
 before anything is proved, and .ci/run before anything is installed. What .ci/run installs is what is lacking, and no package that
-is only recommended. CDPATH makes no difference. The progress is that of the log. What needs a C compiler or git is skipped, and
+is only recommended. What RT_JOBS says reaches the kit from each command that proves, and what is no number is refused. CDPATH
+makes no difference. The progress is that of the log. What needs a C compiler or git is skipped, and
 says so, if there is none.
 """
 

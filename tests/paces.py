@@ -3,7 +3,9 @@
 
 A line of paces.txt.gz has three parts, separated by tabs: the encoding, the key limit and the calls; the input in
 hexadecimal; and after each call how many steps have a token in the queue and the mark up to which the last good step
-has read, joined by ` / `. After a fault only the mark is compared, and at most limit + 1 steps are queued.
+has read, joined by ` / `. After a fault only the mark is compared, and at most limit + 1 steps are queued. The file has 2,776
+inputs, the worked rows with three lists of calls each, and inputs of scan.txt.gz. It was made from the same executable reading of
+the rules as vectors/. The calls are scans, peeks and skips, one by one.
 """
 
 import gzip

@@ -2,7 +2,7 @@
 """Compares the scanner with a plain program of two passes: plain.py PROGRAM.
 
 The plain program asks the program `testbench`, which is beside the given one, for gaps, kinds and lexemes, reads all lexemes
-of an input first, and lays the finished list out in a second pass. The inputs are those of vectors/scan.txt.gz that are
+of an input first, and lays the finished list out in a second pass. The inputs are 4,000 of those of vectors/scan.txt.gz that are
 accepted UTF-8 without a byte order mark, and the lines are those that the given program lists.
 """
 

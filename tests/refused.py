@@ -1,5 +1,5 @@
 #!/usr/bin/env python3
-"""Runs the program with less and less memory: refused.py PROGRAM.
+"""Runs the program with less and less address space: refused.py PROGRAM.
 
 If a growth is refused, the program says that it is out of memory and has written nothing, or its lines are a beginning of
 those with ample memory and then the one fault of kind memory. Every other run gives all the lines.

@@ -2,7 +2,8 @@
 """Checks how the real process ends: statuses.py PROGRAM.
 
 For each command: its exit status, and what is on standard output and on standard error, if its words are wrong or
-no text, its input is closed or a folder, and its output is closed, full or a pipe that no one reads.
+no text, its input is closed or a folder, and its output is closed, full or a pipe that no one reads. So is what the program
+says of itself, with any input and without one.
 """
 
 import os

@@ -151,7 +151,8 @@ def hops_of(walk):
 
 def main():
     signal.signal(signal.SIGPIPE, signal.SIG_DFL)  # the reader of the lines may end early, as head does
-    words = argparse.ArgumentParser(usage="walks.py [PROGRAM] [--seed N]")
+    as_is = argparse.RawDescriptionHelpFormatter
+    words = argparse.ArgumentParser(usage="walks.py [PROGRAM] [--seed N]", description=__doc__, formatter_class=as_is)
     words.add_argument("program", nargs="?")
     words.add_argument("--seed", type=int)
     given = words.parse_args()
