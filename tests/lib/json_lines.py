@@ -7,7 +7,7 @@ import subprocess
 from concurrent.futures import ThreadPoolExecutor
 
 from ffi import vectors
-from library import TOP
+from repository import read
 from worked import build_refuser, rows, run
 
 MARKS = {"start", "end", "context_mark", "problem_mark"}
@@ -71,8 +71,7 @@ def line_of(made):
 
 def members_said():
     """The members of each type, and of each kind of fault, that docs/COMMANDS.md names."""
-    with open(os.path.join(TOP, "docs", "COMMANDS.md"), encoding="utf-8") as text:
-        table = text.read().partition("| `type` | Members |\n|---|---|\n")[2].partition("\n\n")[0]
+    table = read("docs/COMMANDS.md").partition("| `type` | Members |\n|---|---|\n")[2].partition("\n\n")[0]
     said = {}
     for row in table.split("\n"):
         types, members = row.strip("| ").split(" | ")

@@ -10,6 +10,7 @@ import subprocess
 from textwrap import dedent, indent
 
 from held import FFI, build_rust
+from repository import TOP, read
 
 # What the C example calls, and where its input comes from.
 AROUND_C = """#include "bogzhami.h"
@@ -51,20 +52,17 @@ RUST_WANTED = ["StreamStart", "BlockMappingStart", "Key", "Scalar", "Value", "Sc
 
 def examples():
     """The blocks of ffi/README.md that are indented by four."""
-    with open(os.path.join(FFI, "README.md"), encoding="utf-8") as text:
-        return re.findall(r"((?:^    .*\n)+)", text.read(), re.M)
+    return re.findall(r"((?:^    .*\n)+)", read("ffi/README.md"), re.M)
 
 
 def example_of_header():
     """The example in the comment at the front of bogzhami.h."""
-    with open(os.path.join(FFI, "bogzhami.h"), encoding="ascii") as text:
-        return "".join(re.findall(r"^ \*     (.*\n)", text.read(), re.M))
+    return "".join(re.findall(r"^ \*     (.*\n)", read("ffi/bogzhami.h"), re.M))
 
 
 def example_of_manual():
     """The example of the manual page, as groff would show it."""
-    with open(os.path.join(os.path.dirname(FFI), "packaging", "man", "bogzhami.3"), encoding="ascii") as text:
-        example = re.search(r"\n\.EX\n(.*?)\.EE\n", text.read(), re.S)[1]
+    example = re.search(r"\n\.EX\n(.*?)\.EE\n", read("packaging/man/bogzhami.3"), re.S)[1]
     return example.replace("\\e", "\\").replace("\\-", "-")
 
 
@@ -90,7 +88,7 @@ def lines_of(path):
 def try_rust_example(room, number, example):
     path = os.path.join(room, f"page_rust_{number}")
     with open(path + ".rs", "w", encoding="utf-8") as text:
-        text.write(AROUND_RUST.replace("MODULE", os.path.join(os.path.dirname(FFI), "rust", "src", "scanner.rs")).replace("EXAMPLE", example))
+        text.write(AROUND_RUST.replace("MODULE", os.path.join(TOP, "rust", "src", "scanner.rs")).replace("EXAMPLE", example))
     build_rust(path + ".rs", path)
     return [re.match(r"\w+", line)[0] for line in lines_of(path)] == RUST_WANTED
 

@@ -9,6 +9,7 @@ import tempfile
 
 from held import FFI
 from library import VERSION
+from repository import read
 
 # The calls for names, the enumeration that each is for, and how a name of the header becomes what the call returns.
 NAMES = {
@@ -54,9 +55,7 @@ def text_of(library, call, number):
 
 def try_name_calls():
     """Whether each number of the header has the name that belongs to it, and the numbers around have none."""
-    library, wrong, count = c.CDLL(os.path.join(FFI, "out", "libbogzhami.so")), [], 0
-    with open(os.path.join(FFI, "bogzhami.h"), encoding="ascii") as text:
-        header = text.read()
+    library, header, wrong, count = c.CDLL(os.path.join(FFI, "out", "libbogzhami.so")), read("ffi/bogzhami.h"), [], 0
     for call, (enumeration, spelled) in NAMES.items():
         found = numbers(header, enumeration)
         wanted = [(number, FIRST_TOKEN.get(spelled(name), spelled(name))) for name, number in found]
