@@ -1,13 +1,18 @@
 #!/usr/bin/env python3
 """Runs the commands of CONTRIBUTING.md and of the READMEs as they stand there, where they are cheap: commands.py [PROGRAM].
 
-A command is a line of a code block, without its comment. Each is run, and its status and what it prints are compared, or it is
-left out for a reason that is printed; its names are then compared to those that ./dev lists. Names that are missing or wrong are
-tried for each command of ./dev. Each script of tests/ that needs a program says so if it is called without one, and all of them
-say what they do.
+A command is a line of a code block, without its comment. Each of CONTRIBUTING.md that takes seconds is run, and its status and
+what it prints are compared; each other one is left out for a reason that is printed, and its names are compared to those that
+./dev lists. A command that is in neither list is wrong. Each command of ./dev is called without a name, with wrong ones and
+with too many, and ./dev is asked for its help and its version. Each script of tests/ that needs a program says so if it is
+called without one, and all of them say what they do with --help, and how they are called with an option that they have not.
 What needs the built programs is left out if they are not there or older than the sources. Takes a minute.
 
-The commands of each README are run in a checkout of a commit, with a kit that proves nothing (lib/readmes.py).
+The commands of the READMEs at the top, in ffi/, rust/, python/, bench/ and the folders of uses/ are run one after the other, in
+a checkout of a commit in which nothing is built, with a kit that proves nothing (lib/kit.py, lib/readmes.py). The first that
+fails is told. What is left out has its reason, as has what needs a tool that is not there. Afterwards git sees no new file, and
+./package, which comes last, takes the checkout. package.py does the same in its root, and runs all commands of the README of
+the tarball.
 """
 
 import importlib.machinery

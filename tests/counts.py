@@ -1,18 +1,21 @@
 #!/usr/bin/env python3
 """Counts the requests for memory that each call makes: counts.py PROGRAM, which runs its neighbour testbench too.
 
-No request is made by a call that takes no memory. These are, on every worked row of vectors/rows.txt, a new parser and
-the readers of its state; skip; scan and peek of a peeked token, after a fault, which may be a refused request, and after
-the end; all calls on an input that is no text from its first lexeme on; and on UTF-8 decoding, marks, gaps, kinds,
-deciders, lexemes of one character, document markers, stream ends and character classes at every place.
+No request is made by a call that takes no memory, with no request refused and with each one refused in turn. These are, on
+every worked row of vectors/rows.txt, a new parser and the readers of its state; skip; scan and peek of a peeked token, after a
+fault, which may be a refused request, and after the end; all calls on an input that is no text from its first lexeme on; and on
+UTF-8 decoding, marks, gaps, kinds, deciders, lexemes of one character, document markers, stream ends and character classes at
+every place (`testbench bare`).
 
-On the inputs of requests.txt, which are tags and UTF-16, no more requests are made than by the program of an early commit,
-and none for more bytes than its greatest. A line there has the words of a command of testbench, the input in hexadecimal, the
-number of requests, and the bytes of the greatest, or `-` if these are not compared.
+The other calls make some. On the inputs of requests.txt, which are tags and UTF-16, no more requests are made than by the
+program at commit 0fb60f73, and none for more bytes than its greatest, where a lexeme is read alone or a text decoded alone. A
+line there has the words of a command of testbench, the input in hexadecimal, the number of requests, and the bytes of the
+greatest, or `-` if these are not compared. Its 879 commands are of tags with and without escapes, uris with up to 20 characters
+before the first escape, letters of two and three bytes, and halves of units and of pairs. by_hand/requests.py made the file.
 
-Every block is given back by the end, whichever request is refused. Valgrind counts no block and no wrong access at the
-end of each worked row, and how many bytes a session of it requests in all, which are at most 8 KB and 8 bytes for each
-of the input. Needs a C compiler; valgrind is skipped if there is none.
+Every block is given back by the end, whichever request is refused. Valgrind counts no block and no wrong access at the end of
+each worked row, and how many bytes a session of it requests in all, which are at most 8 KB and 8 bytes for each of the input.
+Needs a C compiler; valgrind is skipped, and that is said, if there is none.
 """
 
 import os

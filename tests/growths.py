@@ -2,18 +2,24 @@
 """Refuses each request for memory in turn while the program runs: growths.py PROGRAM.
 
 For each worked row of vectors/rows.txt its own command, and for each of the inputs below and of the rows of calls a scan; for
-all of these, lists of scans past the end, and of peeks with skips past the end. The same for the deep rows, of which only some
-requests are refused. Each request that is made after the input and the calls were read is answered: the program is out of
-memory and has written nothing, or its lines are a beginning of those with ample memory, then the one fault of kind memory, and
-then, for a list of calls, one line for each call that is left. The fault comes only at a scan or a peek of a token that was not
-peeked, never after the stream end, and never if no memory is taken: if UTF-8 is decoded, or refused so early that the first
-step is near. If a request that comes before is refused, the lines may also be those with ample memory. All blocks are given
-back.
+all of these, lists of scans past the end, and of peeks with skips past the end. The inputs below are 100 entries, and small
+ones with one step of each kind that takes memory, outside of flow and in flow. The first request is refused, then the second,
+and so on up to the last. The same for the deep rows, of 100,000 bytes, of which only some six requests of each command are
+refused.
 
-Then the program testbench, which is beside the given one, makes calls one by one on 100 entries, on the rows that say how many
-steps are queued, and on small inputs with one step of each kind that takes memory, in UTF-8 and UTF-16. Each request that is
-refused in a call is answered by that call's fault, so nothing asks twice for the same memory. The answers before it are those
-with ample memory; after it come empty tokens. Needs a C compiler.
+Each request that is made after the input and the calls were read is answered: the program is out of memory and has written
+nothing, or its lines are a beginning of those with ample memory, then the one fault of kind memory, and then, for a list of
+calls, one line for each call that is left. The fault comes only at a scan or a peek of a token that was not peeked, never after
+the stream end, and never if no memory is taken: if UTF-8 is decoded, or refused so early that the first step is near. If a
+request that comes before is refused, the lines may also be those with ample memory, since the standard library collects a list
+in that way. All blocks are given back.
+
+Then the program testbench, which is beside the given one, makes calls one by one: scans on the 100 entries and on the rows that
+say how many steps are queued, which are compared, and scans, peeks and skips on the small inputs, in UTF-8 and UTF-16. Each
+request that is refused in a call is answered by that call's fault, so nothing asks twice for the same memory. The answers
+before it are those with ample memory; after it come empty tokens. On the 100 entries more than 100 requests are answered so,
+and fewer than 100 of these faults come before the tenth token, so tokens are handed out while memory is still to be requested.
+Needs a C compiler.
 """
 
 import os

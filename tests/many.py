@@ -1,14 +1,22 @@
 #!/usr/bin/env python3
 """Builds the library of ffi/, and scans many files with uses/many over it: many.py [PROGRAM].
 
-The lines of the inputs of vectors/ are the expected ones, as files and as members of archives. Those of generated texts, in
-UTF-8 and UTF-16, with and without a fault, are those of a plain loop. What can not be read gets a line that says why, and all
-else is scanned: missing files, folders, pipes, damaged archives. A worker is killed when it is in the middle of a part: the
-lines are all there, the files of that part that it had opened were opened twice, and every other file once. At a file that
-ends each worker, only that file is lost. If files are longer than those whose size is asked for, each is opened once. If the
-scheduler is killed, that is said, and the lines before are whole. A write that fails has its status and says why; nothing is
-said at a pipe that is closed, or if the keyboard interrupts. What needs a C compiler or dask.distributed is skipped if there is
-none.
+Most of it runs over a scheduler and two workers of dask.distributed that are started here. The lines of the inputs of
+vectors/rows.txt and vectors/scan.txt.gz that are scanned in any encoding with the usual key limit are the expected ones, as
+files and as members of archives, plain and compressed; but the vectors do not say in which line a fault of the reader is, and
+some of those places are written down here. Those of 120 generated texts, in UTF-8 and UTF-16, with and without a fault, are
+those of a plain loop in one process. What can not be read gets a line that says why, and all else is scanned: missing files,
+folders, pipes, damaged archives.
+
+The workers log each file that they open (lib/opens.py), and wait at one of them. There a worker is killed, in the middle of a
+part, when all other parts are done: the lines are all there, the three files of its part that it had opened were opened twice,
+and the other 97 once. At a file that ends each worker, only that file is lost. Of 600 files, most are 300 times as long as the
+others: each is opened once, though parts are cut by a guess. If the scheduler is killed, that is said, and the lines before are
+whole. A write that fails has its status and says why; nothing is said at a pipe that is closed, or at an interrupt of all
+processes at several times.
+
+Without dask.distributed, check.py has its help, its version and what it says of wrong words, and of anything else it says that
+this is needed. What needs a C compiler or dask.distributed is skipped if there is none.
 """
 
 import collections

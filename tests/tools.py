@@ -1,13 +1,22 @@
 #!/usr/bin/env python3
 """What the tools and scripts say of themselves, and of wrong words, input and output: tools.py [PROGRAM].
 
-The programs of uses/ are built under the names that they are installed by. `--help` and `--version` write to standard output and
-end with 0, whatever other words there are; wrong words are named, with the line of the usage, and end with 2. `-` is standard
-input, `--` ends the options, and an option may stand after a file. An input that can not be read is told with the reason. A
-closed pipe ends a tool without a word, whether or not the tool gets the signal. The shell scripts answer in the same way before
-anything is proved, and ./run and ./try refuse the words that the program refuses. Each line of json is an object with the members
-that docs/COMMANDS.md names, and stands for the line that `scan` has to give (lib/json_lines.py). bash, zsh and fish complete the words of the tools. What needs a C compiler or rustc (1.63 or later)
-is skipped if there is none.
+The programs of uses/ are built under the names that they are installed by. `--help` and `--version` write to standard output
+and end with 0, whatever other words there are; wrong words are named, with the line of the usage, and end with 2. `-` is
+standard input, `--` ends the options, and an option may stand after a file. An input that can not be read (a file that is not
+there or may not be read, a folder) is told with the reason, as is a full disk. A closed pipe ends a tool without a word,
+whether or not the tool gets the signal.
+
+The shell scripts run, try, test, package, ffi/build and uses/libyaml/build, with no kit on the path, answer in the same way
+before anything is proved. ./run and ./try refuse exactly the words that the program refuses, and say that an input that is
+closed or a folder can not be read.
+
+json lists the worked rows, every fifth input of vectors/scan.txt.gz, and inputs with characters that have to be escaped and
+with tags that are not UTF-8. Each line is an object with the members that docs/COMMANDS.md names, in that order, and stands for
+the line that `scan` has to give (lib/json_lines.py). Each request for memory is refused in turn on five inputs.
+
+With the files of packaging/completions, bash, zsh and fish complete lines to the commands, encodings, files and to exactly the
+options that `--help` names. What needs a C compiler, rustc (1.63 or later) or a shell is skipped if there is none.
 """
 
 import os

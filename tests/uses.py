@@ -1,12 +1,18 @@
 #!/usr/bin/env python3
 """Builds the programs of uses/ over the library of ffi/, and runs them: uses.py [PROGRAM].
 
-lint: small inputs of each kind of message, whose whole output and exit status are compared; inputs of vectors/, which must end
-with status 0 or 1, thirty of them under valgrind; each request for memory is refused in turn. highlight: on inputs of vectors/
-the terminal's output without the escape sequences, where what a terminal would act on stands as its bytes, and the page without
-tags and entities, are the input byte for byte; with NO_COLOR there are no sequences; on the page each token that the vectors name has the colour of its kind and nothing else has one, but for comments; for some inputs the
-colours are written down here. Both: inputs of 100,000 openers, keys or anchors end in a few seconds. What needs a C compiler,
-rustc (1.63 or later) or valgrind is skipped when there is none.
+lint: small inputs of each kind of message, whose whole output and exit status are compared. The inputs of vectors/rows.txt and
+vectors/scan.txt.gz that are scanned in any encoding with the usual key limit end with status 0 or 1 and with the expected
+fault, thirty of them under valgrind. Each request for memory is refused in turn on four small inputs.
+
+highlight: on the worked rows and every third of those inputs the terminal's output without the escape sequences, and the page
+without tags and entities, are the input byte for byte, where what a terminal would act on and what a page may not hold stand as
+their bytes; for UTF-16 they are its text. With NO_COLOR the terminal gets the same without sequences. On the page each token
+that the vectors name has the colour of its kind, comments have theirs, nothing else between tokens has one, and the fault is
+marked at its place. The colours of some inputs are written down here, for the terminal and the page.
+
+Both: inputs of 100,000 openers, keys, anchors and so on end within five seconds each. What needs a C compiler, rustc (1.63 or
+later) or valgrind is skipped when there is none, and that is said.
 """
 
 import html.parser
