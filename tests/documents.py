@@ -6,10 +6,10 @@ One line of output for each check; what is wrong is printed before it. The check
 - paths: what a document has in backticks or as a link, and looks like a path of the repository, is there. A `*` stands for
   any name. Paths are from the repository's root, or from the document's folder. What scripts write may be missing:
   bench/results.md, docs/speed.svg and what is in a folder `out`. The documents are README.md, CHANGELOG.md, CONTRIBUTING.md,
-  docs/, and the README files of tests/, bench/, uses/, ffi/, rust/, python/ and of each crate.
+  docs/, and the README files of tests/, bench/, uses/, ffi/, rust/, python/, of each crate and of its proofs.
 - written: what `./dev folders` writes is what it would write now: the README.md of each folder of proofs, and of each folder of
-  code or definitions that has more than eight files; the picture in ARCHITECTURE.md, and the lists of what Headline.antt stands
-  on; the laws in PROMISES.md; the clauses in RULES.md. A place in a document that is for such a part is there once.
+  code, definitions or shared scripts that has more than eight files; the picture in ARCHITECTURE.md, and the lists of what
+  Headline.antt stands on; the laws in PROMISES.md; the clauses in RULES.md. The marks of such a part are there once.
 - rules: in RULES.md every heading has a line with a definition and a code file, and a link to it. What that line names is
   in the file that it names: a definition in parentheses, and a test. There is a clause for each definition. walks.py follows the
   line further. Each module of the three crates of the library is named.
@@ -30,8 +30,8 @@ One line of output for each check; what is wrong is printed before it. The check
   entry there has a date, and none is of a day before the one below it.
 - machines: where a document says x86-64, it says x86-64-v2, which is what the kit compiles for.
 - crates: docs/RATTLE.md has the lines of crates.txt of all crates that its own crate needs.
-- folders: a folder with more than eight files has a README.md, but for the folders within proofs. A file of a folder of code or
-  of definitions that has one begins with a sentence.
+- folders: a folder with more than eight files has a README.md, but for the folders within proofs. Each file in such a table begins
+  with a sentence.
 - picture: each module that the picture in ARCHITECTURE.md is to show is in it.
 - headline: the order in which to read the files that Headline.antt stands on has all of them, and no others. The headline reaches
   none of what is read of a list of characters.
@@ -369,7 +369,7 @@ def check_written():
 def check_folders():
     files = [(folder, name) for folder in long_folders() for name in sources(folder)]
     wrong = [f"{folder}/{name}: it does not begin with a sentence" for folder, name in files if not sentence(folder, name)]
-    folders = [path for path in found("**/") if not re.search(r"(^|/)(bin|dist|out|proofs|target|__pycache__)(/|$)", path)]
+    folders = [path for path in found("**/") if not re.search(r"(^|/)(bin|dist|out|target|__pycache__)(/|$)|/proofs/", path)]
     for folder in folders:
         count = sum(os.path.isfile(os.path.join(TOP, path)) for path in found(f"{folder}/*"))
         if count > MOST_FILES and not found(f"{folder}/README.md"):
