@@ -359,9 +359,10 @@ def check_crates():
 
 def check_written():
     try:
-        return len(written()), [f"{path}: it is not what ./dev folders writes" for path in stale()]
+        made = written()
     except ValueError as problem:
         return 1, [str(problem)]
+    return len(made), [f"{path}: it is not what ./dev folders writes" for path in stale(made)]
 
 
 # FOLDERS

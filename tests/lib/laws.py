@@ -129,7 +129,7 @@ def listed(paths, crate):
     return ", ".join(f"`{os.path.relpath(path, f'crates/{crate}/proofs')}`" for path in paths)
 
 
-def proved(crate, title, every):
+def proved(crate, every):
     """What is proved by hand or rests on lemmas in a table, and all else in a sentence."""
     rows, alone = [], {}
     for name, path, attributes in every:
@@ -140,14 +140,13 @@ def proved(crate, title, every):
         else:
             alone.setdefault(path, []).append(f"`{name}`")
     others = "; ".join(f"{', '.join(names)} in {listed([path], crate)}" for path, names in alone.items())
-    if rows:
-        yield from (f"## {title}", "", "| Name | Where | Rests on |", "|---|---|---|", *rows, "")
-    if others:
-        yield from (f"The prover proves these alone, and they rest on no lemma file: {others}.", "")
+    yield from ("| Name | Where | Rests on |", "|---|---|---|", *rows, "") if rows else ()
+    yield from (f"The prover proves these alone, and they rest on no lemma file: {others}.", "") if others else ()
 
 
-def lemma_rows(crate):
+def lemma_table(crate):
     """The folders of lemmas, each with its files."""
+    yield from ("| File | What it shows |", "|---|---|") if lemma_files(crate) else ()
     for folder, paths in itertools.groupby(lemma_files(crate), os.path.dirname):
         if folder != f"crates/{crate}/proofs":
             yield f"| `{os.path.basename(folder)}/` | {head(folder + '.antt')} |"
@@ -155,13 +154,14 @@ def lemma_rows(crate):
 
 
 def proof_page(crate):
-    """The text of the README.md in the proofs of a crate."""
-    of_laws = proved(crate, "Laws", [(name, f"crates/{crate}/src/laws.rt", "") for name, _, _ in laws(crate)])
-    lines = [f"# The proofs of `{crate}`", "", "`docs/PROOFS.md` says how to read them. `./dev folders` writes this page.", ""]
-    lines += [*of_laws, *proved(crate, "Public functions", functions(crate))]
-    return "\n".join([*lines, "## Lemma files", "", "| File | What it shows |", "|---|---|", *lemma_rows(crate), ""])
+    """The text of the README.md in the proofs of a crate; the empty text if there is nothing to list."""
+    of_laws = proved(crate, [(name, f"crates/{crate}/src/laws.rt", "") for name, _, _ in laws(crate)])
+    parts = {"Laws": of_laws, "Public functions": proved(crate, functions(crate)), "Lemma files": lemma_table(crate)}
+    lines = [line for title, part in parts.items() if (own := list(part)) for line in (f"## {title}", "", *own)]
+    front = [f"# The proofs of `{crate}`", "", "`docs/PROOFS.md` says how to read them. `./dev folders` writes this page.", ""]
+    return "\n".join([*front, *lines, ""]) if lines else ""
 
 
 def proof_pages():
-    """The README.md in the proofs of each crate that has files of lemmas, by its path."""
-    return {f"crates/{crate}/proofs/README.md": proof_page(crate) for crate in CRATES if lemma_files(crate)}
+    """The README.md in the proofs of each crate, by its path."""
+    return {f"crates/{crate}/proofs/README.md": page for crate in CRATES if (page := proof_page(crate))}

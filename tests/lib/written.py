@@ -7,7 +7,7 @@ from folders import listings
 from headline import with_lists
 from laws import PROMISES, promises, proof_pages
 from picture import with_picture
-from repository import TOP, read
+from repository import TOP, found, read
 
 ARCHITECTURE, RULES = "docs/ARCHITECTURE.md", "docs/RULES.md"
 
@@ -18,14 +18,14 @@ def written():
     return {**listings(), **proof_pages(), ARCHITECTURE: drawn, PROMISES: promises(), RULES: with_clauses(read(RULES))}
 
 
-def stale():
+def stale(made):
     """Those that are missing or not as they would be written now."""
-    return {path: text for path, text in written().items() if not os.path.exists(os.path.join(TOP, path)) or read(path) != text}
+    return {path: text for path, text in made.items() if not found(path) or read(path) != text}
 
 
 def write_all():
     """Writes those that are stale, and returns their paths."""
-    made = stale()
+    made = stale(written())
     for path, text in made.items():
         with open(os.path.join(TOP, path), "w", encoding="utf-8") as out:
             out.write(text)
