@@ -1,17 +1,31 @@
 #!/usr/bin/env python3
 """Makes the packages with ./package, and uses them as a user would, where there is no kit: package.py [PROGRAM].
 
-./package refuses what it has to refuse, says why, and makes the same bytes twice. The Debian packages are installed in a new
-root, which debootstrap makes from the machine's own package source. There, programs in C and C++ are compiled by what pkg-config
-and CMake say, and the crate's tests are run. Each program, the crate's example, and the Python module if there is one, lists the
-worked rows of vectors/rows.txt as yamltok does. The tarball is unpacked in the same root, in a folder with a blank in its name, and the
-commands of its README are given; so are those of the repository's READMEs, in a checkout (lib/readmes.py). If no root can be made,
-the tarball is tried in an empty folder of this machine, with an environment that has no kit, and the Debian packages are skipped.
+A copy of the repository is brought from one state that ./package refuses to the next: no checkout, no proved build, tests that
+have not passed, changes that are in no commit, a new file, a built file that was changed, sources that were not proved. Each
+has its message. Then a proved and tested commit is packaged twice, by ./package --for-test, and the bytes are the same; so are
+those of the packages that are made of its source package, unpacked where there is no checkout.
 
-The packages are looked into as well (lib/debian.py), and lintian is asked about them. What needs a tool that is not there is
-skipped, and says so.
+The packages are looked into (lib/debian.py): what is in the tarball, that no file has a path of this machine, and what BUILT
+says. lintian has nothing to say of the Debian packages and of the source package, down to its hints, but what the files
+*.lintian-overrides of packaging/debian/ explain. Programs and libraries are stripped, and have no instruction of a later level
+than x86-64-v2. The symbols file is what the library exports and what the header declares. The Debian changelogs have the
+versions, dates and words of CHANGELOG.md, and all packages the address in packaging/homepage. Each path that a document of a
+package names leads into the package, to a file that the packages install, or into the source package, and then the document
+says so. The source package has the files that git knows.
 
-It needs the program and the library that ./test has built.
+The Debian packages are installed by dpkg in a new root, which debootstrap makes from the machine's own package source, and in
+which apt installs compilers. There the programs, programs in C and C++ that are compiled by what pkg-config and CMake say, the
+crate's example, and the Python module if there is one, list the worked rows of vectors/rows.txt as yamltok does. Python knows
+the version of the module, and pip installs it out of the tarball's folder. The crate's own tests run by `cargo test --offline`,
+and so does a crate that names it. PyYAML's CSafeLoader runs over the packaged libyaml. When the packages are removed, nothing
+of them is left. Then the tarball is unpacked in the same root, in a folder with a blank in its name, and the commands of its
+README are given; so are those of the repository's READMEs, in a checkout (lib/readmes.py).
+
+It needs the program and the library that ./test has built, two to four minutes, 1.5 GB of disk and the rights of root. Without
+debootstrap, a package source that answers, or these rights, the tarball is tried in an empty folder of this machine, with an
+environment that has no kit, and the Debian packages are skipped. What needs another tool that is not there is skipped too, and
+says so.
 """
 
 import glob

@@ -1,16 +1,27 @@
 #!/usr/bin/env python3
 """Calls the module of python/ over the library of ffi/: python.py [PROGRAM].
 
-Alone: the inputs of vectors/rows.txt and vectors/scan.txt.gz are listed as they are expected, for several sizes of batch, and the
-worked rows by `python3 -m bogzhami` as by PROGRAM. Faults, settings, kinds of input, early ends and threads are tried by hand.
+Alone: every input of vectors/scan.txt.gz is listed as expected, every tenth also in batches of 1, 2, 7 and 100,000 tokens, and
+the worked rows by `python3 -m bogzhami` as by PROGRAM. Faults, settings, kinds of input, scanners that are given up, memory
+that is refused, threads, and the places where the library is looked for are tried by hand, and the programs of python/README.md
+print what it says. So are the exit statuses of `python3 -m bogzhami`: wrong words, reads and writes that fail, a closed pipe,
+interrupts, and no library, where help and version are there all the same.
 
-With PyYAML: tokens and marks are those of its C loader, but for the differences that python/README.md lists, which lib/loading.py
-recognises exactly; each of them occurs. Where its own scanner gives the same tokens, so are all parts of marks and the lines
-that errors show. Events, nodes and values are those of its own parser, composer and constructors.
+A copy of the checkout, in a folder with a blank in its name, is used with no variable, and by pip in a new virtual environment
+of each Python that makes one: installed, installed as it stands, and as a wheel, with nothing fetched. Of an installed package
+the version, the types and the library are looked at, and that all goes when it is removed; of a wheel, its list of files. The
+stubs have the names and the parameters of the modules.
+
+With PyYAML: on some 41,000 texts of the repository (bytes and `str`), tokens, marks and errors are those of its C loader, but
+for the differences that python/README.md lists, which lib/loading.py recognises exactly; each of them has to occur. Where its
+own scanner gives the same tokens, marks have the same index, pointer and buffer, and errors show the same lines; block ends and
+the stream end of a text whose last line has no break are where its own scanner has them. Events and nodes are the same with and
+without short cuts, and values are those of PyYAML's loaders. Loaders that are made of other classes load the same as these,
+with their own methods and with what is added later; and `%YAML 1.3` is taken here and refused by the C loader.
 
 With yamllint: its messages are the same for each text of which both scanners give the same tokens.
 
-What needs PyYAML's C loader or yamllint is skipped if there is none.
+What needs PyYAML's C loader or yamllint is skipped, and says so, if there is none.
 """
 
 import collections
