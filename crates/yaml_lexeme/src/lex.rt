@@ -530,8 +530,8 @@ pub fn yaml_read_character(
 /// The document marker at a place: `---` if `start` is set, and else `...` (YAML 1.1, 7.2 Document Boundary Markers).
 /// No memory is taken.
 ///
-/// `at` must be the mark of a place of this text, as for [`yaml_lexeme_at`], and `yaml_lexeme_kind` must return the kind
-/// of that marker there. It is what `yaml_lexeme_at` returns there for the kind, in any context.
+/// `at` must be the mark of a place of this text, as for [`yaml_lexeme_at`], and `yaml_lexeme_kind` must return the
+/// kind of that marker there. It is what `yaml_lexeme_at` returns there for the kind, in any context.
 #[tactic(auto, unfolding(crate::specs::Lex::lex))]
 #[inline(always)]
 pub fn yaml_read_marker(text: &yaml_text_t, at: yaml_mark_t, start: bool) -> yaml_lexeme_t

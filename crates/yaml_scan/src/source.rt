@@ -4,7 +4,7 @@ ghost use Rattle.yaml_lexeme.specs.KindSets.{block_kind, is_character, marker_ki
 ghost use Rattle.yaml_lexeme.specs.LexemeOf.{lexeme_of};
 ghost use Rattle.yaml_lexeme.specs.Counted.{IsMarkOf};
 ghost use Rattle.yaml_lexeme.specs.Decider.{one_on};
-ghost use Rattle.yaml_lexeme.specs.declared.kind.yaml_lexeme_kind_t.TheVariants.{PLAIN, STREAM_END, TAG};
+ghost use Rattle.yaml_lexeme.specs.declared.kind.yaml_lexeme_kind_t.TheVariants.{DIRECTIVE, PLAIN, STREAM_END, TAG};
 ghost use Rattle.yaml_scan.specs.SourceOf.{source_of};
 ghost use Rattle.yaml_scan.specs.inside.Scanner.{scanner_of};
 ghost use Rattle.yaml_scan.specs.inside.Scanning.{HasRead};
@@ -226,24 +226,23 @@ pub(crate) fn read_stream_end(text: &yaml_text_t, state: &state_t) -> yaml_lexem
     yaml_read_stream_end(text, state.front)
 }
 
-/// The lexeme of a kind after the gap, or why it is refused.
+/// The directive after the gap, or why it is refused.
 #[inline(always)]
-pub(crate) fn read_other(
+pub(crate) fn read_directive(
     text: &yaml_text_t,
     state: &mut state_t,
-    kind: yaml_lexeme_kind_t,
     context: yaml_context_t,
 ) -> Result<yaml_lexeme_t, yaml_refusal_t>
     requires place { (p : ℕ) × IsMarkOf text.now.chars state.old.front p
-        × ((flow : Bool) × ((source_of text.now.chars).kind flow p ≡ Some kind)) }
+        × ((flow : Bool) × ((source_of text.now.chars).kind flow p ≡ Some DIRECTIVE)) }
     requires level { IfSome context.level (λ l. l ≤ length text.now.chars) }
-    ensures { HasRead (scanner_of text.now state.old) (scanner_of text.now state.new) kind context result }
+    ensures { HasRead (scanner_of text.now state.old) (scanner_of text.now state.new) DIRECTIVE context result }
 {
     let mut spot = yaml_spot_t {
         text: text,
         at: state.front,
     };
-    let read = yaml_read_lexeme(state.alloc, &mut spot, kind, context);
+    let read = yaml_read_lexeme(state.alloc, &mut spot, yaml_lexeme_kind_t::DIRECTIVE, context);
     if read.is_err() {
         state.there = spot.at;
     }

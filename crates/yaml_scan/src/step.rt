@@ -5,7 +5,7 @@ ghost use Rattle.yaml_text.specs.Fault.{memory_fault};
 ghost use Rattle.yaml_text.specs.Text.{Text};
 ghost use Rattle.yaml_lexeme.specs.declared.kind.yaml_lexeme_kind_t.{yaml_lexeme_kind_t};
 ghost use Rattle.yaml_lexeme.specs.KindSets.{block_kind, is_character, marker_kind, name_kind, quoted_kind};
-ghost use Rattle.yaml_lexeme.specs.declared.kind.yaml_lexeme_kind_t.TheVariants.{PLAIN, STREAM_END, TAG};
+ghost use Rattle.yaml_lexeme.specs.declared.kind.yaml_lexeme_kind_t.TheVariants.{DIRECTIVE, PLAIN, STREAM_END, TAG};
 ghost use Rattle.yaml_scan.specs.Laid.{Laid};
 ghost use Rattle.yaml_scan.specs.inside.Scanner.{scanner_of};
 ghost use Rattle.yaml_scan.specs.inside.Scanning.{Beside, CanRead, Comes, HasRoom, IsMet, Refuses, Stays, allowed_in};
@@ -21,7 +21,7 @@ use crate::layout::{end_character, end_laid, end_laid_queued, end_queued, lay_qu
 use crate::scanner::{cleared_by, refused_by, state_t, step_of};
 use crate::sink::{no_sink_t, yaml_token_sink_t};
 use crate::source::{
-    gap_end, kind_at, read_block, read_character, read_marker, read_name, read_other, read_plain,
+    gap_end, kind_at, read_block, read_character, read_directive, read_marker, read_name, read_plain,
     read_quoted, read_stream_end, read_tag,
 };
 use crate::stop::{stop_at_kind, stop_at_start, stop_in_gap, stop_t, stop_without_kind, stopped};
@@ -362,21 +362,19 @@ fn step_stream_end<const IN_FLOW: bool>(
     }
 }
 
-/// Makes the step of a lexeme of any kind. Those that come here are rare, so their groups always go into the queue, and
-/// one function serves every sink.
+/// Makes the step of a directive. Its group goes into the queue, so one function serves every sink.
 #[inline(never)]
-fn step_other<const IN_FLOW: bool>(
+fn step_directive<const IN_FLOW: bool>(
     text: &yaml_text_t,
     state: &mut state_t,
-    kind: yaml_lexeme_kind_t,
 ) -> Result<(), stop_t>
     ghost before: { List Laid }
-    requires { Comes before (scanner_of text.now state.old) IN_FLOW kind }
+    requires { Comes before (scanner_of text.now state.old) IN_FLOW DIRECTIVE }
     ensures { IsStep before (scanner_of text.now state.old) (scanner_of text.now state.new) result }
 {
-    match begin_step(text, state, IN_FLOW, kind) {
+    match begin_step(text, state, IN_FLOW, yaml_lexeme_kind_t::DIRECTIVE) {
         Ok(step) => {
-            let read = read_other(text, state, kind, step.context);
+            let read = read_directive(text, state, step.context);
             match lay_queued(text, state, step, read) {
                 Ok((laid, token)) => end_laid_queued(state, laid, token),
                 Err(stop) => Err(stopped(stop)),
@@ -474,7 +472,7 @@ fn step_kind<const IN_FLOW: bool, const DIRECT: bool, S: yaml_token_sink_t>(
                 yaml_lexeme_kind_t::FLOW_MAPPING_END,
             )
         }
-        _ => step_other::<IN_FLOW>(text, state, kind),
+        yaml_lexeme_kind_t::DIRECTIVE => step_directive::<IN_FLOW>(text, state),
     }
 }
 

@@ -2,8 +2,8 @@ use Rattle.yaml_scan.specs.inside.Scanner.{scanner_of}
 use Rattle.yaml_scan.proofs.RunningStep.StepMoves.{on_ok_same, queued_step}
 use Rattle.yaml_scan.proofs.step.step_kind.Goals as goal
 
-pub returns-in_default-clause-steps : goal.returns-in_default-clause-steps
-returns-in_default-clause-steps g c = queued_step g.before (scanner_of c.args.text.now c.args.state.now) (scanner_of c.args.text.now c.step_other.new.state) _ _ _ c.step_other.result (g.met.S.yaml_token_sink_t.took_none c.args.sink.now) c.step_other.ensures
+pub returns-in-DIRECTIVE-clause-steps : goal.returns-in-DIRECTIVE-clause-steps
+returns-in-DIRECTIVE-clause-steps g c = queued_step g.before (scanner_of c.args.text.now c.args.state.now) (scanner_of c.args.text.now c.step_directive.new.state) _ _ _ c.step_directive.result (g.met.S.yaml_token_sink_t.took_none c.args.sink.now) c.step_directive.ensures
 
 pub returns-in-ALIAS-clause-steps : goal.returns-in-ALIAS-clause-steps
 returns-in-ALIAS-clause-steps g c = queued_step g.before (scanner_of c.args.text.now c.args.state.now) (scanner_of c.args.text.now c.step_name.new.state) _ _ _ c.step_name.result (g.met.S.yaml_token_sink_t.took_none c.args.sink.now) c.step_name.ensures
@@ -17,8 +17,8 @@ returns-in-TAG-clause-steps g c = queued_step g.before (scanner_of c.args.text.n
 pub returns-in-STREAM_END-clause-steps : goal.returns-in-STREAM_END-clause-steps
 returns-in-STREAM_END-clause-steps g c = queued_step g.before (scanner_of c.args.text.now c.args.state.now) (scanner_of c.args.text.now c.step_stream_end.new.state) _ _ _ c.step_stream_end.result (g.met.S.yaml_token_sink_t.took_none c.args.sink.now) c.step_stream_end.ensures
 
-pub returns-in_default-clause-within : goal.returns-in_default-clause-within
-returns-in_default-clause-within g c = on_ok_same (g.S.yaml_token_sink_t.within c.args.sink.now) c.step_other.result
+pub returns-in-DIRECTIVE-clause-within : goal.returns-in-DIRECTIVE-clause-within
+returns-in-DIRECTIVE-clause-within g c = on_ok_same (g.S.yaml_token_sink_t.within c.args.sink.now) c.step_directive.result
 
 pub returns-in-ALIAS-clause-within : goal.returns-in-ALIAS-clause-within
 returns-in-ALIAS-clause-within g c = on_ok_same (g.S.yaml_token_sink_t.within c.args.sink.now) c.step_name.result

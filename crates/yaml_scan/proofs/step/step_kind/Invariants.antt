@@ -15,8 +15,8 @@ ghost-step_block-2 g a = g.before
 abbrev pub ghost-step_character : goal.ghost-step_character
 ghost-step_character g a = g.before
 
-abbrev pub ghost-step_other : goal.ghost-step_other
-ghost-step_other g a = g.before
+abbrev pub ghost-step_directive : goal.ghost-step_directive
+ghost-step_directive g a = g.before
 
 abbrev pub ghost-step_quoted-2 : goal.ghost-step_quoted-2
 ghost-step_quoted-2 g a = g.before

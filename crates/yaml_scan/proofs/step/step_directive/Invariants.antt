@@ -1,4 +1,4 @@
-use Rattle.yaml_scan.proofs.step.step_other.Given as goal
+use Rattle.yaml_scan.proofs.step.step_directive.Given as goal
 
 abbrev pub ghost-begin_step : goal.ghost-begin_step
 ghost-begin_step g a = g.before
