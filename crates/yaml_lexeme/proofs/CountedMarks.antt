@@ -6,9 +6,11 @@ pub mod CountedPlaces
 pub mod LastPlaces
 -- Reading ahead from a place that is not between CR and LF to another such place.
 pub mod WholePlaces
--- Gaps, names, tags, what a directive says and the rest of its line end, or are refused, at places that are not between CR and LF.
-pub mod WholeSmallReaders
--- Scalars end, or are refused, at places that are not between CR and LF.
+-- The places where reading ends or is refused are clear.
+pub mod ClearReads
+-- Literal and folded scalars end, or are refused, at places that are not between CR and LF, and each of their lines takes a character or more.
+pub mod WholeBlocks
+-- Plain scalars and directives, and the marks of their ends, end at places that are not between CR and LF.
 pub mod WholeScalars
 -- Gaps, lexemes and problems end at places that are not between CR and LF, and their marks are the counted ones.
 pub mod WholeLexemes

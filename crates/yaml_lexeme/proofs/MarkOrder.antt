@@ -1,11 +1,11 @@
 -- The order of marks.
 
--- Reading goes ahead: what is put together from readers that go ahead does, too.
+-- Places ahead of a place, and what is read up to there.
 pub mod ReadingAhead
--- Gaps, names, uris, tags and what a directive says go ahead.
-pub mod SmallReadersAhead
--- Scalars and directives go ahead, and where their tokens end.
-pub mod ScalarsAhead
+-- The marks of places that are ahead are in order, and a gap ends ahead.
+pub mod PlaceOrder
+-- What the kind that is at a place says of the characters there.
+pub mod KindRows
 -- A stream end is one mark, at column 0.
 pub mod StreamEndOrder
 -- The marks of every lexeme are in order.

@@ -6,3 +6,5 @@ pub mod ReadResults
 pub mod PartByPart
 -- A list of parts can be gathered into a state one part at a time.
 pub mod GatheredParts
+-- What holds of what was read, and of the place of an offence.
+pub mod HeldReads

@@ -1,135 +1,118 @@
 -- Gaps, lexemes and problems end at places that are not between CR and LF, and their marks are the counted ones.
-use Rattle.std.proofs.Common.{◌≡◌, ℕ, zero, suc, ◌+◌, ◌-◌, ◌≤◌, Bool, true, false, not, ◌==◌, ◌&&◌, ◌||◌, if◌then◌else◌, inl, inr, List, length, take, drop, slice_index, Option, Some, None, Result, Ok, Err, refl, sym, ap, ◌∙◌, subst, arith, get_or-drop, get_or-take}
-use Rattle.std.proofs.lemmas.Bool.{cases_Bool, and_parts}
-use Rattle.std.proofs.lemmas.Bool.Decides.{nat_tests}
+use Rattle.std.proofs.Common.{◌≡◌, ℕ, zero, suc, ◌+◌, ◌-◌, ◌≤◌, true, false, ◌==◌, List, length, take, drop, slice_index, Some, Result, Ok, Err, refl, sym, ap, ◌∙◌, subst, arith, get_or-drop, get_or-take}
 use Rattle.std.proofs.lemmas.List.{length-take}
 use Rattle.yaml_lexeme.specs.declared.kind.yaml_lexeme_kind_t.TheVariants as kind
 use Rattle.yaml_text.specs.Token.{TokenData as token}
 use Rattle.yaml_lexeme.specs.declared.kind.yaml_lexeme_kind_t.{yaml_lexeme_kind_t}
 use Rattle.yaml_lexeme.specs.declared.lex.yaml_context_t.{yaml_context_t}
-use Rattle.yaml_lexeme.specs.Lexeme.{Lexeme, lexeme, whole, scalar_to, directive_to}
-use Rattle.yaml_lexeme.specs.Lexeme.{Directive}
+use Rattle.yaml_lexeme.specs.Lexeme.{Lexeme, lexeme, whole, scalar_to}
 use Rattle.yaml_lexeme.specs.Lexeme.{Scalar}
 use Rattle.yaml_text.specs.Token.{TokenData}
 use Rattle.yaml_text.specs.declared.types.yaml_mark_t.{yaml_mark_t}
 use Rattle.yaml_text.specs.declared.types.yaml_scalar_style_t.{yaml_scalar_style_t}
 use Rattle.yaml_text.specs.declared.types.yaml_scalar_style_t.TheVariants.{YAML_PLAIN_SCALAR_STYLE, YAML_SINGLE_QUOTED_SCALAR_STYLE, YAML_DOUBLE_QUOTED_SCALAR_STYLE, YAML_LITERAL_SCALAR_STYLE, YAML_FOLDED_SCALAR_STYLE}
-use Rattle.yaml_lexeme.proofs.CountedMarks.WholePlaces.{parts, Clear, clear_here, clear_after, clear_one}
-use Rattle.yaml_lexeme.proofs.CountedMarks.WholeSmallReaders.{Held, Holds, ok_holds, bind_holds, Clears, is_not, gap_clear, name_clears, tag_clears}
+use Rattle.yaml_lexeme.proofs.CountedMarks.WholePlaces.{parts, Clear, clear_here, clear_trans, clear_after, clear_one, Marked, marked_here, marked_end}
+use Rattle.yaml_lexeme.proofs.CountedMarks.ClearReads.{Clears, Marks, good_clears}
+use Rattle.yaml_lexeme.proofs.Parts.HeldReads.{Held, Holds, ok_holds, bind_holds}
+use Rattle.yaml_lexeme.proofs.Locality.GapLocality.{gap_clear}
+use Rattle.yaml_lexeme.proofs.Locality.NameLocality.{name_good}
+use Rattle.yaml_lexeme.proofs.Locality.TagLocality.{tag_good}
+use Rattle.yaml_lexeme.proofs.Locality.QuotedLocality.{quoted_good}
 use Rattle.yaml_lexeme.proofs.CountedMarks.CountedPlaces.{places_counted}
-use Rattle.yaml_lexeme.proofs.Places.PlaceMoves.{skip_skip, length_skip, rest_skip}
-use Rattle.yaml_lexeme.proofs.Readers.BlocksAlike.{blocks_alike}
-use Rattle.yaml_lexeme.proofs.Readers.DocumentMarkers.{marker_rows}
-use Rattle.yaml_lexeme.proofs.CountedMarks.WholeScalars.{HasMark, mark_here, Marks, quoted_clears, plain_marks, directive_marks, block_marks}
+use Rattle.yaml_lexeme.proofs.Places.PlaceMoves.{skip_skip, length_skip, rest_skip, peek_on}
+use Rattle.yaml_lexeme.proofs.CountedMarks.WholeBlocks.{block_marks}
+use Rattle.yaml_lexeme.proofs.CountedMarks.WholeScalars.{plain_marks, directive_marks}
+use Rattle.yaml_lexeme.proofs.MarkOrder.KindRows.{starts, third, KindFact, kind_says}
 use Rattle.yaml_lexeme.specs.Block.{block}
-use Rattle.yaml_lexeme.specs.Classes.{ends}
-use Rattle.yaml_lexeme.specs.Directive.{directive}
 use Rattle.yaml_lexeme.specs.Gap.{gap}
-use Rattle.yaml_lexeme.specs.Kind.{is_marker_of, starts_plain, kind_at}
+use Rattle.yaml_lexeme.specs.Kind.{kind_at}
 use Rattle.yaml_lexeme.specs.Lex.{lex, in_flow, least, says_of, len_of}
 use Rattle.yaml_lexeme.specs.KindSets.{quoted_as}
 use Rattle.yaml_lexeme.specs.Locality.{reach}
 use Rattle.yaml_lexeme.specs.Name.{name}
-use Rattle.yaml_lexeme.specs.Place.{Place, start, place_at, first, peek, skip}
+use Rattle.yaml_lexeme.specs.Order.{is_stream_end}
+use Rattle.yaml_lexeme.specs.Place.{Place, start, place_at, peek, skip}
 use Rattle.yaml_lexeme.specs.Plain.{plain}
 use Rattle.yaml_lexeme.specs.Quoted.{quoted}
 use Rattle.yaml_lexeme.specs.Reading.{Found, Read, found}
 use Rattle.yaml_lexeme.specs.Tag.{tag}
 use Rattle.yaml_lexeme.specs.Whole.{IsWhole, GapIsWhole, ReachIsWhole, EndIsWhole, IsCounted, GapIsCounted, LexemeIsCounted, ProblemIsCounted}
 use Rattle.yaml_text.specs.Chars.{utf8}
-use Rattle.yaml_text.specs.Classes.{is_z, is_crlf}
+use Rattle.yaml_text.specs.Classes.{is_crlf}
 use Rattle.yaml_text.specs.Mark.{cuts_break, IsPlaceAt, mark_at}
 
--- no lexeme begins with a CR
-no_kind : (flow : Bool) (p : Place) → first p ≡ 0x0D → kind_at flow p ≡ None
-unfolding kind_at
-no_kind true p h = elim (cases_Bool (p.mark.column == 0)) [ inl c ↦ rw (h, c) refl | inr c ↦ rw (h, c) refl ]
-no_kind false p h = elim (cases_Bool (p.mark.column == 0)) [ inl c ↦ rw (h, c) refl | inr c ↦ rw (h, c) refl ]
-
-is_cr : (c : ℕ) → (c == 0x0D) ≡ true → c ≡ 0x0D
-is_cr c h = grind (arith, nat_tests)
-
-starts : (flow : Bool) (k : yaml_lexeme_kind_t) (p : Place) → kind_at flow p ≡ Some k → (first p == 0x0D) ≡ false
-starts flow k p h =
-    elim (cases_Bool (first p == 0x0D)) [
-      | inl e ↦ let none : kind_at flow p ≡ None = no_kind flow p (is_cr (first p) e) in absurd (cc (none, h))
-      | inr f ↦ f
-    ]
-
-third : (c : ℕ) (p : Place) → (c == 0x0D) ≡ false → is_marker_of c p ≡ true → (peek p 2 == 0x0D) ≡ false
-third c p n h = is_not (peek p 2) c n (and_parts (peek p 2 == c) (ends (peek p 3)) (and_parts (p.mark.column == 0 && (peek p 0 == c && peek p 1 == c)) (peek p 2 == c && ends (peek p 3)) h).1).0
-
-marker_end : (flow : Bool) (k : yaml_lexeme_kind_t) (p : Place) → len_of k ≡ 3 → kind_at flow p ≡ Some k → (peek p 2 == 0x0D) ≡ false
-marker_end flow k p t h =
-    elim (cases_Bool (is_marker_of 0x2D p)) [
-      | inl m ↦ third 0x2D p refl m
-      | inr m ↦ elim (cases_Bool (is_marker_of 0x2E p)) [ inl n ↦ third 0x2E p refl n | inr n ↦ absurd (marker_rows flow k p t m n h) ]
-    ]
-
 -- a lexeme from p on
-abbrev MarkedLexeme : Place → Found Lexeme → Type 0
-MarkedLexeme p f = (f.value.start_mark ≡ p.mark) × (f.value.reach ≡ f.end.mark) × HasMark p f.value.end_mark × Clear p f.end
+abbrev pub MarkedLexeme : Place → Found Lexeme → Type 0
+MarkedLexeme p f = (f.value.start_mark ≡ p.mark) × (f.value.reach ≡ f.end.mark) × Marked (skip 1 p) f.value.end_mark f.end
 
-whole_holds : {A : Type 0} (says : A → TokenData) (p : Place) (r : Read A) → Clears p r → Holds (MarkedLexeme p) p (lexeme (whole says) p r)
-whole_holds says p r h = bind_holds h (λ x a. ok_holds (refl, refl, mark_here a, a))
+whole_holds : {A : Type 0} (says : A → TokenData) (p : Place) (r : Read A) → Clears (skip 1 p) r → Holds (MarkedLexeme p) (Clear (skip 1 p)) (lexeme (whole says) p r)
+whole_holds says p r h = bind_holds h (λ x a. ok_holds (refl, refl, marked_here a (clear_here x.end)))
 
-scalar_holds : (style : yaml_scalar_style_t) (p : Place) (r : Read Scalar) → Marks (λ (s : Scalar). s.end) p r → Holds (MarkedLexeme p) p (lexeme (scalar_to style) p r)
-scalar_holds style p r h = bind_holds h (λ x a. ok_holds (refl, refl, a.0, a.1))
+scalar_holds : (style : yaml_scalar_style_t) (p : Place) (r : Read Scalar) → Marks (λ (s : Scalar). s.end) (skip 1 p) r → Holds (MarkedLexeme p) (Clear (skip 1 p)) (lexeme (scalar_to style) p r)
+scalar_holds style p r h = bind_holds h (λ x a. ok_holds (refl, refl, a))
 
-ended_holds : (p : Place) (r : Read Directive) → Marks (λ (d : Directive). d.end) p r → Holds (MarkedLexeme p) p (lexeme directive_to p r)
-ended_holds p r h = bind_holds h (λ x a. ok_holds (refl, refl, a.0, a.1))
+some_holds : (k : yaml_lexeme_kind_t) (p : Place) → Clear (skip 1 p) (skip (len_of k) p) → Holds (MarkedLexeme p) (Clear (skip 1 p)) (lexeme (whole says_of) p (found k (skip (len_of k) p)))
+some_holds k p a = ok_holds (refl, refl, marked_here a (clear_here (skip (len_of k) p)))
 
-some_hold : (k : yaml_lexeme_kind_t) (n : ℕ) (p : Place) → Clear p (skip n p) → Holds (MarkedLexeme p) p (lexeme (whole says_of) p (found k (skip n p)))
-some_hold k n p a = ok_holds (refl, refl, mark_here a, a)
+marker_clear : (p : Place) → (peek p 2 == 0x0D) ≡ false → Clear (skip 1 p) (skip 3 p)
+marker_clear p h = let a : Clear (skip 1 p) (skip 2 (skip 1 p)) = clear_after 1 (skip 1 p) (rw (peek_on 1 1 p) h) in subst (λ (x : Place). Clear (skip 1 p) x) (skip_skip 1 2 p) a
 
-lexeme_holds : (k : yaml_lexeme_kind_t) (c : yaml_context_t) (p : Place) → kind_at (in_flow c) p ≡ Some k → (k ≡ kind.STREAM_END → ⊥) → (first p == 0x0D) ≡ false → Holds (MarkedLexeme p) p (lex k c p)
+lexeme_holds : (k : yaml_lexeme_kind_t) (c : yaml_context_t) (p : Place) → KindFact (in_flow c) p k → (k ≡ kind.STREAM_END → ⊥) → Holds (MarkedLexeme p) (Clear (skip 1 p)) (lex k c p)
 unfolding lex
-lexeme_holds kind.STREAM_END c p h other t = absurd (other refl)
-lexeme_holds kind.DIRECTIVE c p h other t = ended_holds p (directive p) (directive_marks p t)
-lexeme_holds kind.DOCUMENT_START c p h other t = some_hold kind.DOCUMENT_START 3 p (clear_after 2 p (marker_end (in_flow c) kind.DOCUMENT_START p refl h))
-lexeme_holds kind.DOCUMENT_END c p h other t = some_hold kind.DOCUMENT_END 3 p (clear_after 2 p (marker_end (in_flow c) kind.DOCUMENT_END p refl h))
-lexeme_holds kind.FLOW_SEQUENCE_START c p h other t = some_hold kind.FLOW_SEQUENCE_START 1 p (clear_one p t)
-lexeme_holds kind.FLOW_MAPPING_START c p h other t = some_hold kind.FLOW_MAPPING_START 1 p (clear_one p t)
-lexeme_holds kind.FLOW_SEQUENCE_END c p h other t = some_hold kind.FLOW_SEQUENCE_END 1 p (clear_one p t)
-lexeme_holds kind.FLOW_MAPPING_END c p h other t = some_hold kind.FLOW_MAPPING_END 1 p (clear_one p t)
-lexeme_holds kind.FLOW_ENTRY c p h other t = some_hold kind.FLOW_ENTRY 1 p (clear_one p t)
-lexeme_holds kind.BLOCK_ENTRY c p h other t = some_hold kind.BLOCK_ENTRY 1 p (clear_one p t)
-lexeme_holds kind.KEY c p h other t = some_hold kind.KEY 1 p (clear_one p t)
-lexeme_holds kind.VALUE c p h other t = some_hold kind.VALUE 1 p (clear_one p t)
-lexeme_holds kind.ALIAS c p h other t = whole_holds token.ALIAS p (name p) (name_clears p t)
-lexeme_holds kind.ANCHOR c p h other t = whole_holds token.ANCHOR p (name p) (name_clears p t)
-lexeme_holds kind.TAG c p h other t = whole_holds (λ t. t) p (tag (in_flow c) p) (tag_clears (in_flow c) p t)
-lexeme_holds kind.LITERAL c p h other t = scalar_holds YAML_LITERAL_SCALAR_STYLE p (block false c.level p) (rw (blocks_alike false c.level p) (block_marks false c.level p t))
-lexeme_holds kind.FOLDED c p h other t = scalar_holds YAML_FOLDED_SCALAR_STYLE p (block true c.level p) (rw (blocks_alike true c.level p) (block_marks true c.level p t))
-lexeme_holds kind.SINGLE_QUOTED c p h other t = whole_holds (quoted_as YAML_SINGLE_QUOTED_SCALAR_STYLE) p (quoted true p) (quoted_clears true p t)
-lexeme_holds kind.DOUBLE_QUOTED c p h other t = whole_holds (quoted_as YAML_DOUBLE_QUOTED_SCALAR_STYLE) p (quoted false p) (quoted_clears false p t)
-lexeme_holds kind.PLAIN c p h other t = scalar_holds YAML_PLAIN_SCALAR_STYLE p (plain (in_flow c) (least c) p) (plain_marks (in_flow c) (least c) p)
+lexeme_holds kind.STREAM_END c p h other = absurd (other refl)
+lexeme_holds kind.DIRECTIVE c p h other = bind_holds (directive_marks p) (λ x a. ok_holds (refl, refl, a))
+lexeme_holds kind.DOCUMENT_START c p h other = some_holds kind.DOCUMENT_START p (marker_clear p (third 0x2D p refl h))
+lexeme_holds kind.DOCUMENT_END c p h other = some_holds kind.DOCUMENT_END p (marker_clear p (third 0x2E p refl h))
+lexeme_holds kind.FLOW_SEQUENCE_START c p h other = some_holds kind.FLOW_SEQUENCE_START p (clear_here (skip 1 p))
+lexeme_holds kind.FLOW_MAPPING_START c p h other = some_holds kind.FLOW_MAPPING_START p (clear_here (skip 1 p))
+lexeme_holds kind.FLOW_SEQUENCE_END c p h other = some_holds kind.FLOW_SEQUENCE_END p (clear_here (skip 1 p))
+lexeme_holds kind.FLOW_MAPPING_END c p h other = some_holds kind.FLOW_MAPPING_END p (clear_here (skip 1 p))
+lexeme_holds kind.FLOW_ENTRY c p h other = some_holds kind.FLOW_ENTRY p (clear_here (skip 1 p))
+lexeme_holds kind.BLOCK_ENTRY c p h other = some_holds kind.BLOCK_ENTRY p (clear_here (skip 1 p))
+lexeme_holds kind.KEY c p h other = some_holds kind.KEY p (clear_here (skip 1 p))
+lexeme_holds kind.VALUE c p h other = some_holds kind.VALUE p (clear_here (skip 1 p))
+lexeme_holds kind.ALIAS c p h other = whole_holds token.ALIAS p (name p) (good_clears name name_good p)
+lexeme_holds kind.ANCHOR c p h other = whole_holds token.ANCHOR p (name p) (good_clears name name_good p)
+lexeme_holds kind.TAG c p h other = whole_holds (λ t. t) p (tag (in_flow c) p) (good_clears (tag (in_flow c)) (tag_good (in_flow c)) p)
+lexeme_holds kind.LITERAL c p h other = scalar_holds YAML_LITERAL_SCALAR_STYLE p (block false c.level p) (block_marks false c.level p)
+lexeme_holds kind.FOLDED c p h other = scalar_holds YAML_FOLDED_SCALAR_STYLE p (block true c.level p) (block_marks true c.level p)
+lexeme_holds kind.SINGLE_QUOTED c p h other = whole_holds (quoted_as YAML_SINGLE_QUOTED_SCALAR_STYLE) p (quoted true p) (good_clears (quoted true) (quoted_good true) p)
+lexeme_holds kind.DOUBLE_QUOTED c p h other = whole_holds (quoted_as YAML_DOUBLE_QUOTED_SCALAR_STYLE) p (quoted false p) (good_clears (quoted false) (quoted_good false) p)
+lexeme_holds kind.PLAIN c p h other = scalar_holds YAML_PLAIN_SCALAR_STYLE p (plain (in_flow c) (least c) p) (plain_marks (in_flow c) (least c) p h)
 
-is_end : (k : yaml_lexeme_kind_t) → Result (k ≡ kind.STREAM_END) (k ≡ kind.STREAM_END → ⊥)
+-- a stream end, or another kind
+pub is_end : (k : yaml_lexeme_kind_t) → Result (k ≡ kind.STREAM_END) ((k ≡ kind.STREAM_END → ⊥) × (is_stream_end k ≡ false))
 is_end kind.STREAM_END = Ok refl
-is_end kind.DIRECTIVE = Err (λ e. absurd cc)
-is_end kind.DOCUMENT_START = Err (λ e. absurd cc)
-is_end kind.DOCUMENT_END = Err (λ e. absurd cc)
-is_end kind.FLOW_SEQUENCE_START = Err (λ e. absurd cc)
-is_end kind.FLOW_MAPPING_START = Err (λ e. absurd cc)
-is_end kind.FLOW_SEQUENCE_END = Err (λ e. absurd cc)
-is_end kind.FLOW_MAPPING_END = Err (λ e. absurd cc)
-is_end kind.FLOW_ENTRY = Err (λ e. absurd cc)
-is_end kind.BLOCK_ENTRY = Err (λ e. absurd cc)
-is_end kind.KEY = Err (λ e. absurd cc)
-is_end kind.VALUE = Err (λ e. absurd cc)
-is_end kind.ALIAS = Err (λ e. absurd cc)
-is_end kind.ANCHOR = Err (λ e. absurd cc)
-is_end kind.TAG = Err (λ e. absurd cc)
-is_end kind.LITERAL = Err (λ e. absurd cc)
-is_end kind.FOLDED = Err (λ e. absurd cc)
-is_end kind.SINGLE_QUOTED = Err (λ e. absurd cc)
-is_end kind.DOUBLE_QUOTED = Err (λ e. absurd cc)
-is_end kind.PLAIN = Err (λ e. absurd cc)
+is_end kind.DIRECTIVE = Err (λ e. absurd cc, refl)
+is_end kind.DOCUMENT_START = Err (λ e. absurd cc, refl)
+is_end kind.DOCUMENT_END = Err (λ e. absurd cc, refl)
+is_end kind.FLOW_SEQUENCE_START = Err (λ e. absurd cc, refl)
+is_end kind.FLOW_MAPPING_START = Err (λ e. absurd cc, refl)
+is_end kind.FLOW_SEQUENCE_END = Err (λ e. absurd cc, refl)
+is_end kind.FLOW_MAPPING_END = Err (λ e. absurd cc, refl)
+is_end kind.FLOW_ENTRY = Err (λ e. absurd cc, refl)
+is_end kind.BLOCK_ENTRY = Err (λ e. absurd cc, refl)
+is_end kind.KEY = Err (λ e. absurd cc, refl)
+is_end kind.VALUE = Err (λ e. absurd cc, refl)
+is_end kind.ALIAS = Err (λ e. absurd cc, refl)
+is_end kind.ANCHOR = Err (λ e. absurd cc, refl)
+is_end kind.TAG = Err (λ e. absurd cc, refl)
+is_end kind.LITERAL = Err (λ e. absurd cc, refl)
+is_end kind.FOLDED = Err (λ e. absurd cc, refl)
+is_end kind.SINGLE_QUOTED = Err (λ e. absurd cc, refl)
+is_end kind.DOUBLE_QUOTED = Err (λ e. absurd cc, refl)
+is_end kind.PLAIN = Err (λ e. absurd cc, refl)
 
-reach_of : (p : Place) (r : Read Lexeme) → Held (MarkedLexeme p) p r → Clear p (reach r)
-reach_of p (Ok f) h = h.3
-reach_of p (Err e) h = h
+-- a lexeme of the kind that is at p
+pub lexeme_is : (k : yaml_lexeme_kind_t) (c : yaml_context_t) (p : Place) (f : Found Lexeme) → kind_at (in_flow c) p ≡ Some k → (k ≡ kind.STREAM_END → ⊥) → lex k c p ≡ Ok f → MarkedLexeme p f
+lexeme_is k c p f h other e = subst (λ (r : Read Lexeme). Held (MarkedLexeme p) (Clear (skip 1 p)) r) e (lexeme_holds k c p (kind_says (in_flow c) k p h) other).held
+
+start_clear : (k : yaml_lexeme_kind_t) (c : yaml_context_t) (p : Place) → kind_at (in_flow c) p ≡ Some k → Clear p (skip 1 p)
+start_clear k c p h = clear_one p (starts (in_flow c) k p h)
+
+reach_of : (p : Place) (r : Read Lexeme) → Clear p (skip 1 p) → Held (MarkedLexeme p) (Clear (skip 1 p)) r → Clear p (reach r)
+reach_of p (Ok f) a h = clear_trans a (marked_end h.2)
+reach_of p (Err e) a h = clear_trans a h
 
 end_reach : (c : yaml_context_t) (p : Place) → Clear p (reach (lex kind.STREAM_END c p))
 unfolding lex
@@ -139,7 +122,7 @@ reach_clear : (k : yaml_lexeme_kind_t) (c : yaml_context_t) (p : Place) → kind
 reach_clear k c p h =
     elim (is_end k) [
       | Ok e ↦ subst (λ (j : yaml_lexeme_kind_t). Clear p (reach (lex j c p))) (sym e) (end_reach c p)
-      | Err other ↦ reach_of p (lex k c p) (lexeme_holds k c p h other (starts (in_flow c) k p h)).held
+      | Err other ↦ reach_of p (lex k c p) (start_clear k c p h) (lexeme_holds k c p (kind_says (in_flow c) k p h) other.0).held
     ]
 
 -- in a text
@@ -184,13 +167,10 @@ gap_is_whole flow allowed text index n at = is_whole text index n (gap flow allo
 pub reach_is_whole : ReachIsWhole
 reach_is_whole k c text index n at h = is_whole text index n (reach (lex k c (place_at text n))) at (reach_clear k c (place_at text n) h)
 
-lexeme_is : (k : yaml_lexeme_kind_t) (c : yaml_context_t) (p : Place) (f : Found Lexeme) → kind_at (in_flow c) p ≡ Some k → (k ≡ kind.STREAM_END → ⊥) → lex k c p ≡ Ok f → MarkedLexeme p f
-lexeme_is k c p f h other e = subst (λ (r : Read Lexeme). Held (MarkedLexeme p) p r) e (lexeme_holds k c p h other (starts (in_flow c) k p h)).held
-
 pub end_is_whole : EndIsWhole
 end_is_whole k c text index n f at h other e =
     let m = (lexeme_is k c (place_at text n) f h other e).2 in
-    record { at = m.at; is = m.is; whole = is_whole text index n m.at at m.clear }
+    record { at = m.at; is = m.is; whole = is_whole text index n m.at at (clear_trans (start_clear k c (place_at text n) h) m.taken) }
 
 counted : (text : List ℕ) (n : ℕ) (mark : yaml_mark_t) (q : Place) → mark ≡ q.mark → IsWhole text n q → IsCounted text n mark
 counted text n mark q e w =
@@ -209,7 +189,8 @@ lexeme_is_counted k c text index n f at h other e =
     let p = place_at text n in
     let l = lexeme_is k c p f h other e in
     let m = l.2 in
-    (counted text n _ p l.0 (is_whole text index n p at (clear_here p)), counted text n _ m.at m.is (is_whole text index n m.at at m.clear), counted text n _ f.end l.1 (is_whole text index n f.end at l.3))
+    let s = start_clear k c p h in
+    (counted text n _ p l.0 (is_whole text index n p at (clear_here p)), counted text n _ m.at m.is (is_whole text index n m.at at (clear_trans s m.taken)), counted text n _ f.end l.1 (is_whole text index n f.end at (clear_trans s (marked_end m))))
 
 pub problem_is_counted : ProblemIsCounted
 problem_is_counted k c text index n e at h o =

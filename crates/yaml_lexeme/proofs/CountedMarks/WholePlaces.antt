@@ -1,10 +1,13 @@
 -- Reading ahead from a place that is not between CR and LF to another such place.
-use Rattle.std.proofs.Common.{◌≡◌, ℕ, zero, suc, ◌+◌, ◌-◌, ◌≤◌, Bool, true, false, cond, ◌==◌, ◌&&◌, if◌then◌else◌, inl, inr, List, [], ◌∷◌, length, slice_index, refl, sym, ap, ◌∙◌, arith}
+use Rattle.std.proofs.Common.{◌≡◌, ℕ, zero, suc, ◌+◌, ◌<◌, ◌≤◌, Bool, true, false, ◌==◌, ◌&&◌, if◌then◌else◌, inl, inr, List, [], ◌∷◌, length, slice_index, refl, sym, ap, ◌∙◌, arith}
 use Rattle.std.proofs.lemmas.Bool.{cases_Bool, cases_lt, and_parts}
 use Rattle.std.proofs.lemmas.Bool.Decides.{nat_tests}
 use Rattle.std.proofs.lemmas.List.{get_or_past}
 use Rattle.std.specs.List.{prefix_len}
-use Rattle.yaml_text.specs.Classes.{is_crlf, is_break}
+use Rattle.yaml_text.specs.Classes.{is_crlf, is_break, is_alpha, is_blank, is_digit}
+use Rattle.yaml_lexeme.specs.Classes.{is_white, is_in_line}
+use Rattle.yaml_lexeme.specs.Gap.{is_gap_blank}
+use Rattle.yaml_text.specs.declared.types.yaml_mark_t.{yaml_mark_t}
 use Rattle.yaml_lexeme.proofs.MarkOrder.ReadingAhead.{ahead_any}
 use Rattle.yaml_lexeme.proofs.Places.PlaceMoves.{skip_none, skip_skip, length_skip, peek_on}
 use Rattle.yaml_lexeme.specs.Order.{IsAhead}
@@ -30,23 +33,50 @@ same_parts k j p =
     let e : k + suc j ≡ suc (k + j) = omega arith in
     ap (λ (c : ℕ). is_crlf c (slice_index (skip k p).rest (suc j))) (peek_on k j p) ∙ ap (λ (d : ℕ). is_crlf (slice_index p.rest (k + j)) d) (peek_on k (suc j) p ∙ ap (λ (i : ℕ). slice_index p.rest i) e)
 
-further : (k j : ℕ) (p q r : Place) → k ≤ length p.rest → q ≡ skip k p → parts p.rest k ≡ false → j ≤ length q.rest → r ≡ skip j q → parts q.rest j ≡ false → Clear p r
-further k zero p q r l e h m f g = record { count = k; within = l; is = f ∙ skip_none q ∙ e; whole = h }
-further k (suc j) p q r l e h m f g =
+-- after k characters, and then j more
+pub whole_then : (k j : ℕ) (p q : Place) → q ≡ skip k p → parts p.rest k ≡ false → parts q.rest j ≡ false → parts p.rest (k + j) ≡ false
+whole_then k zero p q e h g = let n : k + 0 ≡ k = omega arith in rw n h
+whole_then k (suc j) p q e h g =
     let n : k + suc j ≡ suc (k + j) = omega arith in
-    let len : length q.rest ≡ length p.rest - k = ap (λ (x : Place). length x.rest) e ∙ length_skip k p in
-    record {
-      count = suc (k + j);
-      within = omega (arith, len, m, l);
-      is = f ∙ ap (skip (suc j)) e ∙ skip_skip k (suc j) p ∙ ap (λ (i : ℕ). skip i p) n;
-      whole = sym (same_parts k j p) ∙ ap (λ (x : Place). parts x.rest (suc j)) (sym e) ∙ g;
-    }
+    rw n (sym (same_parts k j p) ∙ ap (λ (x : Place). parts x.rest (suc j)) (sym e) ∙ g)
+
+further : (k j : ℕ) (p q r : Place) → k ≤ length p.rest → q ≡ skip k p → parts p.rest k ≡ false → j ≤ length q.rest → r ≡ skip j q → parts q.rest j ≡ false → Clear p r
+further k j p q r l e h m f g = record {
+  count = k + j;
+  within = omega (arith, ap (λ (x : Place). length x.rest) e, length_skip k p, m, l);
+  is = f ∙ ap (skip j) e ∙ skip_skip k j p;
+  whole = whole_then k j p q e h g;
+}
 
 pub clear_trans : {p q r : Place} → Clear p q → Clear q r → Clear p r
 clear_trans {p} {q} {r} a b = further a.count b.count p q r a.within a.is a.whole b.within b.is b.whole
 
 pub clear_ahead : (p q : Place) → Clear p q → IsAhead 0 p q
 clear_ahead p q a = record { count = a.count; least = omega arith; within = a.within; is = a.is }
+
+-- what is left there is no longer
+pub clear_length : {p q : Place} → Clear p q → length q.rest ≤ length p.rest
+clear_length {p} {q} a = omega (arith, length_skip a.count p, ap (λ (x : Place). length x.rest) a.is)
+
+-- a character or more ahead
+pub clear_nearer : (p q : Place) → Clear p q → length q.rest < length p.rest → IsAhead 1 p q
+clear_nearer p q a h = record { count = a.count; least = omega (arith, length_skip a.count p, ap (λ (x : Place). length x.rest) a.is); within = a.within; is = a.is }
+
+pub clear_next : (p q : Place) → 0 < length p.rest → Clear (skip 1 p) q → IsAhead 1 p q
+clear_next p q h a = record { count = 1 + a.count; least = omega arith; within = omega (arith, a.within, length_skip 1 p); is = a.is ∙ skip_skip 1 a.count p }
+
+-- The mark is that of a place on the way from p to q, and both ways are clear.
+pub record Marked (p : Place) (m : yaml_mark_t) (q : Place) : Type 0 where
+  pub at : Place
+  pub is : m ≡ at.mark
+  pub taken : Clear p at
+  pub read : Clear at q
+
+pub marked_here : {p q r : Place} → Clear p q → Clear q r → Marked p q.mark r
+marked_here {p} {q} {r} a b = record { at = q; is = refl; taken = a; read = b }
+
+pub marked_end : {p q : Place} {m : yaml_mark_t} → Marked p m q → Clear p q
+marked_end {p} {q} {m} h = clear_trans h.taken h.read
 
 not_crlf : (c d : ℕ) → d ≡ 0 → is_crlf c d ≡ false
 not_crlf c d e = grind (arith, nat_tests)
@@ -68,15 +98,14 @@ pub no_return : (c d : ℕ) → (c == 0x0D) ≡ false → is_crlf c d ≡ false
 no_return c d h = grind (arith, nat_tests)
 
 -- after a character that is not CR
+pub whole_after : (k : ℕ) (p : Place) → (peek p k == 0x0D) ≡ false → parts p.rest (suc k) ≡ false
+whole_after k p h = no_return (peek p k) (peek p (suc k)) h
+
 pub clear_after : (k : ℕ) (p : Place) → (peek p k == 0x0D) ≡ false → Clear p (skip (suc k) p)
-clear_after k p h = clear_skip (suc k) p (no_return (peek p k) (peek p (suc k)) h)
+clear_after k p h = clear_skip (suc k) p (whole_after k p h)
 
 pub clear_one : (p : Place) → (first p == 0x0D) ≡ false → Clear p (skip 1 p)
 clear_one p h = clear_after 0 p h
-
-pub clear_if : (b : Bool) {p q r : Place} → (b ≡ true → Clear p q) → (b ≡ false → Clear p r) → Clear p (cond b q r)
-clear_if true {p} {q} {r} a b = a refl
-clear_if false {p} {q} {r} a b = b refl
 
 -- a run with this test does not end between CR and LF
 abbrev pub IsSure : (ℕ → Bool) → Type 0
@@ -94,7 +123,7 @@ stops test sure c (d ∷ ds) h e =
       | inr f ↦ sure c d h f
     ]
 
-run_whole : (test : ℕ → Bool) → IsSure test → (cs : List ℕ) → parts cs (prefix_len test cs) ≡ false
+pub run_whole : (test : ℕ → Bool) → IsSure test → (cs : List ℕ) → parts cs (prefix_len test cs) ≡ false
 run_whole test sure [] = refl
 run_whole test sure (c ∷ cs) =
     elim (cases_Bool (test c)) [
@@ -115,7 +144,7 @@ other test none c h =
     ]
 
 -- within a run that takes no CR
-some_whole : (test : ℕ → Bool) → test 0x0D ≡ false → (k : ℕ) (cs : List ℕ) → k ≤ prefix_len test cs → parts cs k ≡ false
+pub some_whole : (test : ℕ → Bool) → test 0x0D ≡ false → (k : ℕ) (cs : List ℕ) → k ≤ prefix_len test cs → parts cs k ≡ false
 some_whole test none zero cs h = refl
 some_whole test none (suc k) [] h = absurd (omega arith)
 some_whole test none (suc k) (c ∷ cs) h =
@@ -126,22 +155,43 @@ some_whole test none (suc k) (c ∷ cs) h =
       | inr f ↦ let m : prefix_len test (c ∷ cs) ≡ 0 = rw f refl in absurd (omega (arith, m, h))
     ]
 
-pub clear_within : (test : ℕ → Bool) (k : ℕ) (p : Place) → test 0x0D ≡ false → k ≤ run_len test p → Clear p (skip k p)
-clear_within test k p none h = clear_skip k p (some_whole test none k p.rest h)
-
 line_feed_is : (c : ℕ) → (c == 0x0A) ≡ true → (c == 0x0D) ≡ false
 line_feed_is c h = grind (arith, nat_tests)
 
-break_one : (b : Bool) (p : Place) → is_crlf (first p) (peek p 1) ≡ false → Clear p (skip (if b then 1 else 0) p)
-break_one true p h = clear_skip 1 p h
-break_one false p h = clear_skip 0 p refl
+one_whole : (b : Bool) (p : Place) → is_crlf (first p) (peek p 1) ≡ false → parts p.rest (if b then 1 else 0) ≡ false
+one_whole true p h = h
+one_whole false p h = refl
 
 -- after a break
-pub clear_break : (p : Place) → Clear p (skip (break_len p) p)
-clear_break p =
+pub break_whole : (p : Place) → parts p.rest (break_len p) ≡ false
+break_whole p =
     elim (cases_Bool (first p == 0x0D && peek p 1 == 0x0A)) [
-      | inl t ↦
-          let m : break_len p ≡ 2 = rw t refl in
-          rw m (clear_after 1 p (line_feed_is (peek p 1) (and_parts (first p == 0x0D) (peek p 1 == 0x0A) t).1))
-      | inr f ↦ rw f (break_one (is_break (first p)) p f)
+      | inl t ↦ let m : break_len p ≡ 2 = rw t refl in rw m (whole_after 1 p (line_feed_is (peek p 1) (and_parts (first p == 0x0D) (peek p 1 == 0x0A) t).1))
+      | inr f ↦ rw f (one_whole (is_break (first p)) p f)
     ]
+
+pub clear_break : (p : Place) → Clear p (skip (break_len p) p)
+clear_break p = clear_skip (break_len p) p (break_whole p)
+
+-- runs
+pub sure_white : IsSure is_white
+sure_white c d h g = grind (arith, nat_tests)
+
+pub sure_in_line : IsSure is_in_line
+sure_in_line c d h g = no_return c d (other is_in_line refl c h)
+
+pub sure_blank : IsSure is_blank
+sure_blank c d h g = no_return c d (other is_blank refl c h)
+
+pub sure_alpha : IsSure is_alpha
+sure_alpha c d h g = no_return c d (other is_alpha refl c h)
+
+pub sure_digit : IsSure is_digit
+sure_digit c d h g = no_return c d (other is_digit refl c h)
+
+pub sure_gap : (tabs : Bool) → IsSure (is_gap_blank tabs)
+sure_gap tabs c d h g = no_return c d (other (is_gap_blank tabs) refl c h)
+
+-- a character that is another one
+pub is_not : (c k : ℕ) → (k == 0x0D) ≡ false → (c == k) ≡ true → (c == 0x0D) ≡ false
+is_not c k n h = grind (arith, nat_tests)

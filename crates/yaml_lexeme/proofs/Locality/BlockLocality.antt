@@ -1,13 +1,15 @@
--- Literal and folded scalars are local.
-use Rattle.std.proofs.Common.{◌≡◌, ℕ, ◌+◌, ◌-◌, ◌≤◌, min, Bool, true, false, not, ◌==◌, ◌&&◌, nat_lt, if◌then◌else◌, inl, inr, List, Option, Some, None, is_some, Result, Ok, Err, refl, sym, ap, ◌∙◌, subst, arith}
+-- Literal and folded scalars are good.
+use Rattle.std.proofs.Common.{◌≡◌, ℕ, ◌+◌, ◌-◌, ◌≤◌, min, Bool, true, false, ◌==◌, nat_lt, if◌then◌else◌, inl, inr, List, Option, Some, None, Result, Ok, Err, refl, sym, ap, ◌∙◌, subst, arith}
 use Rattle.std.proofs.lemmas.Bool.{cases_Bool, cases_lt}
 use Rattle.yaml_lexeme.proofs.Locality.DirectiveLocality.{line_like}
-use Rattle.yaml_lexeme.proofs.Locality.GapLocality.{break_same}
-use Rattle.yaml_lexeme.proofs.Locality.ComposedReaders.{Like, IsLike, IsPartLike, like_found, found_here, refuse_here, like_if, part_like_if, like_on, like_bind, like_same, like_map, like_part, like_run, over_here, many_like, Step, like_step, agree_sym}
+use Rattle.yaml_lexeme.proofs.Locality.GapLocality.{break_same, break_step}
+use Rattle.yaml_lexeme.proofs.CountedMarks.WholePlaces.{break_whole, sure_in_line}
+use Rattle.yaml_lexeme.proofs.Locality.ComposedReaders.{Like, IsLike, agree_sym, like_found, found_here, refuse_here, like_if, like_bind, like_same, like_map, like_run, like_step, Good}
+use Rattle.yaml_lexeme.proofs.Locality.HeaderLocality.{header_like}
 use Rattle.yaml_lexeme.proofs.Locality.LocalReaders.{agree_less, run_same}
-use Rattle.yaml_lexeme.proofs.Locality.LookaheadLists.{Next, go, stop, join, finish, finish_like}
-use Rattle.yaml_lexeme.proofs.MarkOrder.ScalarsAhead.{blank_shortens, text_shortens}
-use Rattle.yaml_lexeme.specs.Block.{header_of, is_sign, sign_of, digit_at, header_at, after_line}
+use Rattle.yaml_lexeme.proofs.Locality.LookaheadLists.{Next, go, stop, join, finish, finish_like, many_like, Joins, join_if, join_part}
+use Rattle.yaml_lexeme.proofs.CountedMarks.WholeBlocks.{indent_whole, blank_shortens, text_shortens}
+use Rattle.yaml_lexeme.specs.Block.{header_at, after_line}
 use Rattle.yaml_lexeme.specs.Block.{indent_len, after_indent, EmptyLine, empty_line, break_at, is_text}
 use Rattle.yaml_lexeme.specs.Block.{block_indent, set_indent, block}
 use Rattle.yaml_lexeme.proofs.Readers.BlocksAlike.{blocks_alike}
@@ -23,7 +25,6 @@ use Rattle.yaml_lexeme.specs.declared.block.header_t.{header_t}
 use Rattle.yaml_lexeme.specs.Lexeme.{Scalar}
 use Rattle.yaml_lexeme.specs.declared.problem.yaml_problem_t.TheVariants.{TAB_IN_INDENTATION}
 use Rattle.yaml_text.specs.Chars.{utf8}
-use Rattle.yaml_text.specs.Classes.{is_digit}
 use Rattle.yaml_text.specs.declared.types.yaml_mark_t.{yaml_mark_t}
 
 abbrev spaces : Place → ℕ
@@ -55,7 +56,7 @@ indented limit p = indent_then limit (skip (indent_len limit p) p)
 
 indented_like : (limit : Option ℕ) → IsLike (indented limit)
 indented_like limit n p q a =
-    let s : Step n p q (skip (indent_len limit p) p) (skip (indent_len limit q) q) = record { count = indent_len limit p; is = refl; same = λ h. ap (λ (i : ℕ). skip i q) (indent_same limit n p q a h) } in
+    let s = like_found {A = Unit {0}} {a = tt} {b = tt} (indent_len limit p) refl (indent_whole limit p) (λ h. ap (λ (i : ℕ). skip i q) (indent_same limit n p q a h)) (λ h. refl) in
     like_step (indent_then limit) (λ m x y b. like_if (is_indenting 0x09 limit x) (is_indenting 0x09 limit y) (λ h. rw (b.mark, b.same 0 (omega arith)) refl) refuse_here found_here) n p q (skip (indent_len limit p) p) (skip (indent_len limit q) q) a s
 
 indent_is : {A : Type 0} (limit : Option ℕ) (p : Place) (f : Place → Result A Offence) → (after_indent limit p >>= f) ≡ (indented limit p >>= λ x. f x.end)
@@ -81,7 +82,7 @@ blank_same n p q a h = rw (a.mark, a.same 0 (omega arith)) refl
 then_like : (m : yaml_mark_t) → IsLike (turn_then m)
 then_like m n p q a =
     like_if (nat_lt 0 (break_len p)) (nat_lt 0 (break_len q)) (λ h. ap (λ (i : ℕ). nat_lt 0 i) (break_same n p q a h))
-    (like_found (break_len p) refl (λ h. ap (λ (i : ℕ). skip i q) (break_same n p q a (omega arith))) (λ h. ap (λ (b : EmptyLine). go b) (blank_same n p q a (omega arith)))) found_here
+    (like_found (break_len p) refl (break_whole p) (λ h. ap (λ (i : ℕ). skip i q) (break_same n p q a (omega arith))) (λ h. ap (λ (b : EmptyLine). go b) (blank_same n p q a (omega arith)))) found_here
 
 turn_like : (limit : Option ℕ) → IsLike (turn limit)
 turn_like limit n p q a =
@@ -133,38 +134,23 @@ at_break n p q a h = rw (a.same 0 (omega arith), a.same 1 (omega arith)) refl
 
 line_then_like : (indent : ℕ) (text : List ℕ) → IsLike (line_then indent text)
 line_then_like indent text n p q a =
-    let s : Step n p q (skip (break_len p) p) (skip (break_len q) q) = record { count = break_len p; is = refl; same = λ h. ap (λ (i : ℕ). skip i q) (break_same n p q a (omega arith)) } in
     like_same (λ h. ap (λ (b : Option ℕ). blank_lines (Some indent) (skip (break_len q) q) >>= λ blanks. found (line_of text b blanks.value) blanks.end) (at_break n p q a h))
-    (like_map (line_of text (break_at p)) (like_step (blank_lines (Some indent)) (lines_like (Some indent)) n p q (skip (break_len p) p) (skip (break_len q) q) a s))
+    (like_map (line_of text (break_at p)) (like_step (blank_lines (Some indent)) (lines_like (Some indent)) n p q (skip (break_len p) p) (skip (break_len q) q) a (break_step n p q a)))
 
 line_like_at : (indent : ℕ) → IsLike (line_at indent)
 unfolding line_at
-line_like_at indent n p q a = like_run (line_then indent) (line_then_like indent) is_in_line n p q a
+line_like_at indent n p q a = like_run (line_then indent) (line_then_like indent) is_in_line sure_in_line n p q a
 
-text_like : (indent : ℕ) → IsPartLike (text_line indent)
+abbrev text_turn : ℕ → Place → Read (Next Line (Unit {0}))
+text_turn indent p = if is_text indent p then (line_at indent p >>= λ l. found (go l.value) l.end) else found (stop tt) p
+
+text_turn_like : (indent : ℕ) → IsLike (text_turn indent)
+text_turn_like indent n p q a =
+    like_if (is_text indent p) (is_text indent q) (λ h. rw (a.mark, a.same 0 (omega arith)) refl) (like_map (λ (l : Line). go l) (line_like_at indent n p q a)) found_here
+
+text_joins : (indent : ℕ) (p : Place) → Joins (text_turn indent p) (text_line indent p) (found tt p)
 unfolding text_line
-text_like indent n p q a =
-    part_like_if (is_text indent p) (is_text indent q) (λ h. rw (a.mark, a.same 0 (omega arith)) refl) (like_part (λ (l : Line). l) (line_like_at indent n p q a)) over_here
-
-digit_like : IsLike digit_at
-unfolding digit_at
-digit_like n p q a =
-    like_if (not (is_digit (first p))) (not (is_digit (first q))) (λ h. rw (a.same 0 (omega arith)) refl) found_here
-    (like_if (first p == 0x30) (first q == 0x30) (λ h. rw (a.same 0 (omega arith)) refl) refuse_here
-    (like_found 1 refl (λ h. refl) (λ h. ap (λ (c : ℕ). Some (c - 0x30)) (sym (a.same 0 (omega arith))))))
-
-abbrev signed : ℕ → Option ℕ → header_t
-signed c d = header_of (sign_of c) d
-
-header_like : IsLike header_at
-unfolding header_at
-header_like n p q a =
-    like_if (is_sign (first p)) (is_sign (first q)) (λ h. rw (a.same 0 (omega arith)) refl)
-    (like_same (λ h. ap (λ (c : ℕ). digit_at (skip 1 q) >>= λ d. found (signed c d.value) d.end) (sym (a.same 0 (omega arith))))
-    (like_map (signed (first p)) (like_on digit_at digit_like n 1 p q (skip 1 p) (skip 1 q) a refl (λ h. refl))))
-    (like_bind _ _ a (digit_like n p q a) (λ x z m b.
-    like_if (is_some x.value && is_sign (first x.end)) (is_some x.value && is_sign (first z)) (λ h. rw (b.same 0 (omega arith)) refl)
-    (like_found 1 refl (λ h. refl) (λ h. ap (λ (c : ℕ). signed c x.value) (sym (b.same 0 (omega arith))))) found_here))
+text_joins indent p = join_if (is_text indent p) (λ e. join_part (λ (l : Line). l) (line_at indent p) (found tt p)) (λ e. record { joined = refl })
 
 -- after the leading empty lines
 abbrev block_end : Bool → header_t → Option ℕ → Found Blanks → Read Scalar
@@ -184,7 +170,7 @@ end_like : (folded : Bool) (header : header_t) (level : Option ℕ) (column : �
     (many (text_line (block_indent level (set_indent level header.digit) leading.column column)) q >>= λ lines. found (block_value_of folded header leading lines.value) lines.end)
 end_like folded header level column leading n p q a e =
     let indent = block_indent level (set_indent level header.digit) leading.column column in
-    like_map (block_value_of folded header leading) (many_like (text_line indent) (text_shortens indent) (text_like indent) n p q a)
+    like_map (block_value_of folded header leading) (many_like (text_line indent) (text_turn indent) (text_shortens indent) (λ x. (text_joins indent x).joined) (text_turn_like indent) n p q a)
 
 block_lines_like : (folded : Bool) (level : Option ℕ) (header : header_t) → IsLike (block_lines folded level header)
 block_lines_like folded level header n p q a =
@@ -215,6 +201,5 @@ block_header_like folded level n p q a =
     like_bind _ _ a (header_like n p q a) (λ x z m b.
     like_bind _ _ b (line_like {A = ℕ} 0 m x.end z b) (λ y w i c. block_lines_like folded level x.value i y.end w c))
 
-pub block_like : (folded : Bool) (level : Option ℕ) → IsLike (block folded level)
-block_like folded level n p q a =
-    rw (block_is folded level p, block_is folded level q) (like_on (block_header folded level) (block_header_like folded level) n 1 p q (skip 1 p) (skip 1 q) a refl (λ h. refl))
+pub block_good : (folded : Bool) (level : Option ℕ) → Good (block folded level)
+block_good folded level = record { next = block_header folded level; is = block_is folded level; like = block_header_like folded level }

@@ -1,11 +1,12 @@
--- Directives are local.
+-- Directives are good.
 use Rattle.std.proofs.Common.{◌≡◌, ℕ, pos, ◌+◌, ◌<◌, ◌≤◌, true, false, not, ◌==◌, ◌||◌, nat_lt, if◌then◌else◌, inl, inr, List, ◌++◌, length, codes, refl, sym, ap, ◌∙◌, subst, arith, lt-ltb}
-use Rattle.std.proofs.lemmas.Bool.{cases_Bool, cases_lt, eqb-true}
+use Rattle.std.proofs.lemmas.Bool.{cases_Bool, cases_lt, eqb-true, not-false}
 use Rattle.std.proofs.lemmas.Bool.Decides.{nat_tests}
 use Rattle.std.specs.Str.{bytes_eq}
 use Rattle.std.specs.Str.Parse.{digits_value}
 use Rattle.yaml_lexeme.proofs.Locality.GapLocality.{break_same, comment_step}
-use Rattle.yaml_lexeme.proofs.Locality.ComposedReaders.{Like, IsLike, like_found, found_here, refuse_here, found_on, like_if, like_on, like_bind, like_run, like_map, step_run, step_then, like_step, agree_sym}
+use Rattle.yaml_lexeme.proofs.CountedMarks.WholePlaces.{parts, whole_after, run_whole, some_whole, break_whole, sure_alpha, sure_blank, sure_digit, is_not}
+use Rattle.yaml_lexeme.proofs.Locality.ComposedReaders.{Like, IsLike, agree_sym, like_found, found_here, refuse_here, found_on, like_case, like_if, like_on, like_bind, like_run, like_map, to, step_run, like_step, Good}
 use Rattle.yaml_lexeme.proofs.Locality.LocalReaders.{agree_less, run_same, take_same}
 use Rattle.yaml_lexeme.proofs.Locality.UriLocality.{some_like}
 use Rattle.yaml_lexeme.proofs.Places.PlaceMoves.{skip_none}
@@ -55,14 +56,15 @@ number_like : IsLike number
 number_like n p q a =
     let k = run_len is_digit p in
     elim (cases_Bool (k == 0)) [
-      | inl e ↦ let z : k ≡ 0 = eqb-true k 0 e in rw (at_none p e) (record { count = 0; ends = sym (skip_none p); same = λ h. rw (skip_none q) (at_none q (ap (λ (i : ℕ). i == 0) (run_same is_digit p q (agree_less (k + 1) n p q (omega arith) a)) ∙ e)) })
+      | inl e ↦ let z : k ≡ 0 = eqb-true k 0 e in rw (at_none p e) (record { count = 0; ends = sym (skip_none p); whole = refl; same = λ h. rw (skip_none q) (at_none q (ap (λ (i : ℕ). i == 0) (run_same is_digit p q (agree_less (k + 1) n p q (omega arith) a)) ∙ e)) })
       | inr e ↦
           elim (cases_Bool (nat_lt 9 k)) [
-            | inl l ↦ rw (at_long p e l) (record { count = 9; ends = refl; same = λ h. let m = long_same n p q (omega arith) a (is_long k l) in at_long q (not_none (run_len is_digit q) m) (lt-ltb 9 (run_len is_digit q) m) })
+            | inl l ↦ rw (at_long p e l) (record { count = 9; ends = refl; whole = some_whole is_digit refl 9 p.rest (let m = is_long k l in omega arith); same = λ h. let m = long_same n p q (omega arith) a (is_long k l) in at_long q (not_none (run_len is_digit q) m) (lt-ltb 9 (run_len is_digit q) m) })
             | inr l ↦ let s : k ≤ 9 = is_short k l in
                 rw (at_some p e l) (record {
                   count = k;
                   ends = refl;
+                  whole = run_whole is_digit sure_digit p.rest;
                   same = λ h.
                       let len = run_same is_digit p q (agree_less (k + 1) n p q (omega arith) a) in
                       at_some q (ap (λ (i : ℕ). i == 0) len ∙ e) (ap (λ (i : ℕ). nat_lt 9 i) len ∙ l)
@@ -71,12 +73,16 @@ number_like n p q a =
           ]
     ]
 
+-- after a character that is not another one
+whole_not : (c : ℕ) (p : Place) → (c == 0x0D) ≡ false → not (first p == c) ≡ false → parts p.rest 1 ≡ false
+whole_not c p n e = whole_after 0 p (is_not (first p) c n (not-false (first p == c) e))
+
 version_like : IsLike version_at
 unfolding version_at
 version_like n p q a =
-    like_bind _ _ a (like_step number number_like n p q (after_run is_blank p) (after_run is_blank q) a (step_run is_blank n p q a)) (λ x z m b.
-    like_if (not (first x.end == 0x2E)) (not (first z == 0x2E)) (λ h. rw (b.same 0 (omega arith)) refl) refuse_here
-    (like_map (λ (d : ℕ). VERSION_DIRECTIVE (pos x.value) (pos d)) (like_on number number_like m 1 x.end z (skip 1 x.end) (skip 1 z) b refl (λ h. refl))))
+    like_bind _ _ a (like_step number number_like n p q (after_run is_blank p) (after_run is_blank q) a (step_run is_blank sure_blank n p q a)) (λ x z m b.
+    like_case (not (first x.end == 0x2E)) (not (first z == 0x2E)) (λ h. rw (b.same 0 (omega arith)) refl) (λ e. refuse_here)
+    (λ e. like_map (λ (d : ℕ). VERSION_DIRECTIVE (pos x.value) (pos d)) (like_on number number_like m 1 x.end z b (whole_not 0x2E x.end refl e))))
 
 -- a handle, after its name
 abbrev handle_then : List ℕ → Place → Read (List ℕ)
@@ -84,28 +90,29 @@ handle_then letters end = if first end == 0x21 then found (codes "!" ++ letters 
 
 handle_then_like : (letters : List ℕ) → IsLike (handle_then letters)
 handle_then_like letters n p q a =
-    like_if (first p == 0x21) (first q == 0x21) (λ h. rw (a.same 0 (omega arith)) refl) (found_on 1) (like_if (nat_lt 0 (length letters)) (nat_lt 0 (length letters)) (λ h. refl) refuse_here found_here)
+    like_case (first p == 0x21) (first q == 0x21) (λ h. rw (a.same 0 (omega arith)) refl) (λ e. found_on 1 (whole_after 0 p (is_not (first p) 0x21 refl e)))
+    (λ e. like_if (nat_lt 0 (length letters)) (nat_lt 0 (length letters)) (λ h. refl) refuse_here found_here)
 
 abbrev handle_after : Place → Read (List ℕ)
 handle_after p = handle_then (run is_alpha p) (after_run is_alpha p)
 
 handle_after_like : IsLike handle_after
-handle_after_like n p q a = like_run handle_then handle_then_like is_alpha n p q a
+handle_after_like n p q a = like_run handle_then handle_then_like is_alpha sure_alpha n p q a
 
 handle_like : IsLike handle_at
 unfolding handle_at
 handle_like n p q a =
-    like_if (not (first p == 0x21)) (not (first q == 0x21)) (λ h. rw (a.same 0 (omega arith)) refl) refuse_here (like_on handle_after handle_after_like n 1 p q (skip 1 p) (skip 1 q) a refl (λ h. refl))
+    like_case (not (first p == 0x21)) (not (first q == 0x21)) (λ h. rw (a.same 0 (omega arith)) refl) (λ e. refuse_here) (λ e. like_on handle_after handle_after_like n 1 p q a (whole_not 0x21 p refl e))
 
 tag_handle_like : IsLike tag_directive_at
 unfolding tag_directive_at
 tag_handle_like n p q a =
-    like_bind _ _ a (like_step handle_at handle_like n p q (after_run is_blank p) (after_run is_blank q) a (step_run is_blank n p q a)) (λ x z m b.
+    like_bind _ _ a (like_step handle_at handle_like n p q (after_run is_blank p) (after_run is_blank q) a (step_run is_blank sure_blank n p q a)) (λ x z m b.
     like_if (not (is_blank (first x.end))) (not (is_blank (first z))) (λ h. rw (b.same 0 (omega arith)) refl) refuse_here
-    (like_bind _ _ b (like_step (some_uri true) (some_like true) m x.end z (after_run is_blank x.end) (after_run is_blank z) b (step_run is_blank m x.end z b)) (λ y w i c.
+    (like_bind _ _ b (like_step (some_uri true) (some_like true) m x.end z (after_run is_blank x.end) (after_run is_blank z) b (step_run is_blank sure_blank m x.end z b)) (λ y w i c.
     like_if (not (ends (first y.end))) (not (ends (first w))) (λ h. rw (c.same 0 (omega arith)) refl) refuse_here found_here)))
 
-named_like : (letters : List ℕ) → IsLike (named letters)
+pub named_like : (letters : List ℕ) → IsLike (named letters)
 unfolding named
 named_like letters n p q a =
     like_if (bytes_eq letters (codes "YAML")) (bytes_eq letters (codes "YAML")) (λ h. refl) (version_like n p q a)
@@ -118,7 +125,7 @@ line_then v q = if is_break (first q) || is_z (first q) then found v (skip (brea
 line_then_like : {A : Type 0} (v : A) → IsLike (line_then v)
 line_then_like v n p q a =
     like_if (is_break (first p) || is_z (first p)) (is_break (first q) || is_z (first q)) (λ h. rw (a.same 0 (omega arith)) refl)
-    (like_found (break_len p) refl (λ h. ap (λ (i : ℕ). skip i q) (break_same n p q a (omega arith))) (λ h. refl)) refuse_here
+    (like_found (break_len p) refl (break_whole p) (λ h. ap (λ (i : ℕ). skip i q) (break_same n p q a (omega arith))) (λ h. refl)) refuse_here
 
 pub line_is : {A : Type 0} (v : A) (p : Place) → (after_line p >>= λ next. found v next) ≡ line_then v (after_comment (after_run is_blank p))
 unfolding after_line
@@ -126,7 +133,7 @@ line_is v p = let q = after_comment (after_run is_blank p) in elim (cases_Bool (
 
 pub line_like : {A : Type 0} (v : A) (n : ℕ) (p q : Place) → Agree n p q → Like n p q (after_line p >>= λ next. found v next) (after_line q >>= λ next. found v next)
 line_like v n p q a =
-    let s = step_then after_comment comment_step n p q (after_run is_blank p) (after_run is_blank q) a (step_run is_blank n p q a) in
+    let s = like_step (to after_comment) comment_step n p q (after_run is_blank p) (after_run is_blank q) a (step_run is_blank sure_blank n p q a) in
     rw (line_is v p, line_is v q) (like_step (line_then v) (line_then_like v) n p q (after_comment (after_run is_blank p)) (after_comment (after_run is_blank q)) a s)
 
 abbrev directive_then : List ℕ → Place → Read Directive
@@ -146,9 +153,6 @@ then_like letters n p q a =
 abbrev directive_after : Place → Read Directive
 directive_after p = directive_then (run is_alpha p) (after_run is_alpha p)
 
-after_run_like : IsLike directive_after
-after_run_like n p q a = like_run directive_then then_like is_alpha n p q a
-
-pub directive_like : IsLike directive
+pub directive_good : Good directive
 unfolding directive
-directive_like n p q a = like_on directive_after after_run_like n 1 p q (skip 1 p) (skip 1 q) a refl (λ h. refl)
+directive_good = record { next = directive_after; is = λ p. refl; like = λ n p q a. like_run directive_then then_like is_alpha sure_alpha n p q a }

@@ -1,15 +1,14 @@
--- What it means that a reader depends on no character eight or more past where it ends, and that lists of parts keep this.
-use Rattle.std.proofs.Common.{◌≡◌, ℕ, zero, suc, ◌+◌, ◌<◌, ◌≤◌, Bool, List, [], ◌∷◌, length, take, Some, None, Ok, Err, refl, sym, ap, ◌∙◌, subst, arith, inl, inr, get_or-drop, get_or-take}
+-- What it means that a reader depends on no character eight or more past where it ends.
+use Rattle.std.proofs.Common.{◌≡◌, ℕ, zero, suc, ◌+◌, ◌<◌, ◌≤◌, Bool, length, take, Ok, Err, refl, sym, ap, ◌∙◌, subst, arith, inl, inr, get_or-drop, get_or-take}
 use Rattle.std.proofs.lemmas.List.{ext_get_or, length-take-le}
 use Rattle.std.proofs.lemmas.List.Sums.{prefix_len_is, prefix_len_passes, prefix_len_stops}
 use Rattle.yaml_lexeme.proofs.Locality.AgreeingPlaces.{Agree, by_agreeing}
 use Rattle.yaml_lexeme.proofs.MarkOrder.ReadingAhead.{ahead_any}
-use Rattle.yaml_lexeme.proofs.Parts.PartByPart.{IsShorter, Shortens, many_turn}
 use Rattle.yaml_lexeme.proofs.Places.PlaceMoves.{skip_one, skip_more, skip_none, length_skip, skip_skip}
 use Rattle.yaml_lexeme.specs.Locality.{reach, move, IsLocal}
 use Rattle.yaml_lexeme.specs.Order.{IsAhead, distance}
 use Rattle.yaml_lexeme.specs.Place.{Place, peek, skip, run_len}
-use Rattle.yaml_lexeme.specs.Reading.{Read, found, refuse, ◌>>=◌, Part, part, over, with_front, go_on, many}
+use Rattle.yaml_lexeme.specs.Reading.{Read, found, refuse}
 
 pub agree_less : (m n : ℕ) (p q : Place) → m ≤ n → Agree n p q → Agree m p q
 agree_less m n p q h a = record { mark = a.mark; left = omega (arith, a.left); right = omega (arith, a.right); same = λ i l. a.same i (omega arith) }
@@ -51,39 +50,15 @@ take_same n p q a =
     let lq = length-take-le n q.rest a.right in
     ext_get_or 0 (take n q.rest) (take n p.rest) (omega arith) (λ i l. get_or-take n q.rest i 0 (omega arith) ∙ sym (a.same i (omega arith)) ∙ sym (get_or-take n p.rest i 0 (omega arith)))
 
--- what was read, with another place after it
-abbrev pub move_part : {A : Type 0} → Part A → Place → Part A
-move_part (Ok (Some f)) q = part f.value q
-move_part (Ok None) q = over
-move_part (Err e) q = refuse e.problem q
-
 -- reading from p on ended k characters on
 abbrev pub EndsAt : {A : Type 0} → ℕ → Place → Read A → Type 0
 EndsAt k p (Ok f) = f.end ≡ skip k p
 EndsAt k p (Err e) = e.at ≡ skip k p
 
-abbrev pub PartEndsAt : {A : Type 0} → ℕ → Place → Part A → Type 0
-PartEndsAt k p (Ok (Some f)) = f.end ≡ skip k p
-PartEndsAt k p (Ok None) = k ≡ 0
-PartEndsAt k p (Err e) = e.at ≡ skip k p
-
 pub record Local {A : Type 0} (read : Place → Read A) (p : Place) : Type 0 where
   pub count : ℕ
   pub ends : EndsAt count p (read p)
   pub same : (q : Place) → Agree (count + 8) p q → read q ≡ move (read p) (skip count q)
-
-pub record LocalPart {A : Type 0} (one : Place → Part A) (p : Place) : Type 0 where
-  pub count : ℕ
-  pub ends : PartEndsAt count p (one p)
-  pub same : (q : Place) → Agree (count + 8) p q → one q ≡ move_part (one p) (skip count q)
-
-front_ends : {A : Type 0} → (a : A) (k n : ℕ) (p q : Place) (r : Read (List A)) → q ≡ skip k p → EndsAt n q r → EndsAt (k + n) p (with_front (a ∷ []) r)
-front_ends a k n p q (Ok r) e h = h ∙ ap (skip n) e ∙ skip_skip k n p
-front_ends a k n p q (Err r) e h = h ∙ ap (skip n) e ∙ skip_skip k n p
-
-front_move : {A : Type 0} → (a : A) (r : Read (List A)) (q : Place) → with_front (a ∷ []) (move r q) ≡ move (with_front (a ∷ []) r) q
-front_move a (Ok r) q = refl
-front_move a (Err r) q = refl
 
 rw_agree : (n : ℕ) (p q : Place) → Agree (1 + (n + 7)) p q → Agree (n + 8) p q
 rw_agree n p q a = agree_less (n + 8) (1 + (n + 7)) p q (omega arith) a
@@ -91,48 +66,6 @@ rw_agree n p q a = agree_less (n + 8) (1 + (n + 7)) p q (omega arith) a
 ends_after : {A : Type 0} → (k n : ℕ) (p : Place) (r : Read A) → EndsAt n (skip k p) r → EndsAt (k + n) p r
 ends_after k n p (Ok r) h = h ∙ skip_skip k n p
 ends_after k n p (Err r) h = h ∙ skip_skip k n p
-
--- the turn of a list that is local after its first part
-local_turn : {A : Type 0} → (one : Place → Part A) → Shortens one → (p : Place) (k : ℕ) (r : Part A) → one p ≡ r → IsShorter p r → PartEndsAt k p r
-    → ((q : Place) → Agree (k + 8) p q → one q ≡ move_part r (skip k q)) → ((x : Place) → length x.rest < length p.rest → Local (many one) x) → Local (many one) p
-local_turn one short p k (Err e) is shorter ends same rest =
-    let here : many one p ≡ Err e = many_turn one short p ∙ ap (λ a. a >>= λ b. go_on (many one) p b) is in
-    record {
-      count = k;
-      ends = rw here ends;
-      same = λ q a. rw here (many_turn one short q ∙ ap (λ b. b >>= λ c. go_on (many one) q c) (same q a));
-    }
-local_turn one short p k (Ok None) is shorter ends same rest =
-    let here : many one p ≡ found [] p = many_turn one short p ∙ ap (λ a. a >>= λ b. go_on (many one) p b) is in
-    record {
-      count = 0;
-      ends = rw here (sym (skip_none p));
-      same = λ q a. rw (here, skip_none q) (many_turn one short q ∙ ap (λ b. b >>= λ c. go_on (many one) q c) (same q (rw ends a)));
-    }
-local_turn one short p k (Ok (Some f)) is shorter ends same rest =
-    let here : many one p ≡ with_front (f.value ∷ []) (many one f.end) = many_turn one short p ∙ ap (λ a. a >>= λ b. go_on (many one) p b) is in
-    let others = rest f.end shorter in
-    let n = others.count in
-    record {
-      count = k + n;
-      ends = rw here (front_ends f.value k n p f.end (many one f.end) ends others.ends);
-      same = λ q a.
-          let first : one q ≡ part f.value (skip k q) = same q (agree_less (k + 8) (k + n + 8) p q (omega arith) a) in
-          let there : Agree (n + 8) (skip k p) (skip k q) = rw_agree n (skip k p) (skip k q) (agree_skip k (n + 7) p q (agree_less (k + (1 + (n + 7))) (k + n + 8) p q (omega arith) a)) in
-          let more : many one (skip k q) ≡ move (many one f.end) (skip n (skip k q)) = others.same (skip k q) (subst (λ (x : Place). Agree (n + 8) x (skip k q)) (sym ends) there) in
-          rw here (many_turn one short q ∙ ap (λ b. b >>= λ c. go_on (many one) q c) first ∙ ap (with_front (f.value ∷ [])) more
-          ∙ front_move f.value (many one f.end) (skip n (skip k q)) ∙ ap (move (with_front (f.value ∷ []) (many one f.end))) (skip_skip k n q));
-    }
-
-local_within : {A : Type 0} → (one : Place → Part A) → Shortens one → ((p : Place) → LocalPart one p) → (n : ℕ) (p : Place) → length p.rest < n → Local (many one) p
-local_within one short parts zero p h = absurd (omega arith)
-local_within one short parts (suc n) p h =
-    let here = parts p in
-    local_turn one short p here.count (one p) refl (short p) here.ends here.same (λ x l. local_within one short parts n x (omega arith))
-
--- a list is local whose parts are
-pub local_many : {A : Type 0} → (one : Place → Part A) → Shortens one → ((p : Place) → LocalPart one p) → (p : Place) → Local (many one) p
-local_many one short parts p = local_within one short parts (length p.rest + 1) p (omega arith)
 
 -- what comes after k characters
 pub local_after : {A : Type 0} → (read : Place → Read A) (k : ℕ) (p : Place) → Local read (skip k p) → Local (λ x. read (skip k x)) p

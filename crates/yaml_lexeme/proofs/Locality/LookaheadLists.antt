@@ -1,9 +1,12 @@
 -- Lists of parts whose end looks ahead are local together with what is read after them.
-use Rattle.std.proofs.Common.{◌≡◌, ℕ, zero, suc, ◌+◌, ◌<◌, List, [], ◌∷◌, length, Some, None, Ok, Err, refl, sym, ap, ◌∙◌, arith}
-use Rattle.yaml_lexeme.proofs.Locality.ComposedReaders.{IsLike, found_here, refuse_here, like_bind, like_map}
+use Rattle.std.proofs.Common.{◌≡◌, ℕ, zero, suc, ◌+◌, ◌<◌, Bool, true, false, if◌then◌else◌, subst, List, [], ◌∷◌, length, Some, None, Ok, Err, refl, sym, ap, ◌∙◌, arith}
+use Rattle.yaml_lexeme.proofs.Locality.ComposedReaders.{Like, IsLike, found_here, refuse_here, like_bind, like_map, like_clear}
+use Rattle.yaml_lexeme.proofs.CountedMarks.WholePlaces.{Clear, clear_nearer}
+use Rattle.yaml_lexeme.proofs.MarkOrder.ReadingAhead.{PartAhead}
+use Rattle.yaml_lexeme.specs.Locality.{reach}
 use Rattle.yaml_lexeme.proofs.Parts.PartByPart.{IsShorter, Shortens, many_turn}
 use Rattle.yaml_lexeme.specs.Place.{Place}
-use Rattle.yaml_lexeme.specs.Reading.{Read, found, refuse, ◌>>=◌, Part, with_front, go_on, many}
+use Rattle.yaml_lexeme.specs.Reading.{Read, found, refuse, ◌>>=◌, Part, part, with_front, go_on, many}
 use Rattle.yaml_lexeme.specs.declared.problem.yaml_problem_t.TheVariants.{END_OF_TEXT}
 
 pub data Next (A B : Type 0) : Type 0 where
@@ -79,3 +82,46 @@ pub finish_like : {A B : Type 0} (one : Place → Part A) (fin : Place → Read 
 finish_like one fin turn short is all n p q a =
     let f = length p.rest + length q.rest + 1 in
     rw (loops one fin turn short is f p (omega arith), loops one fin turn short is f q (omega arith)) (loop_like turn all f n p q a)
+
+-- the parts alone
+alone : {A : Type 0} (r : Read (List A)) → r ≡ (finish (λ x. found {A = Unit {0}} tt x) r >>= λ t. found t.value.0 t.end)
+alone (Ok f) = refl
+alone (Err e) = refl
+
+pub many_like : {A : Type 0} (one : Place → Part A) (turn : Place → Read (Next A (Unit {0}))) → Shortens one → ((p : Place) → turn p ≡ join (one p) (found tt p)) → IsLike turn → IsLike (many one)
+many_like {A} one turn short is all n p q a =
+    subst (λ (r : Read (List A)). Like n p q r (many one q)) (sym (alone (many one p)))
+    (subst (λ (r : Read (List A)). Like n p q (finish (λ x. found {A = Unit {0}} tt x) (many one p) >>= λ t. found t.value.0 t.end) r) (sym (alone (many one q)))
+    (like_map (λ (t : List A × Unit {0}). t.0) (finish_like one (λ x. found tt x) turn short is all n p q a)))
+
+-- a turn, from the rows of a part
+pub record Joins {A B : Type 0} (r : Read (Next A B)) (x : Part A) (fin : Read B) : Type 0 where
+  pub joined : r ≡ join x fin
+
+pub join_if : {A B : Type 0} {x y : Part A} {u v : Read (Next A B)} {fin : Read B} → (b : Bool) → (b ≡ true → Joins u x fin) → (b ≡ false → Joins v y fin) → Joins (if b then u else v) (if b then x else y) fin
+join_if {A} {B} {x} {y} {u} {v} {fin} true e f = e refl
+join_if {A} {B} {x} {y} {u} {v} {fin} false e f = f refl
+
+pub join_part : {A B C : Type 0} (g : C → A) (r : Read C) (fin : Read B) → Joins (r >>= λ x. found (go (g x.value)) x.end) (r >>= λ x. part (g x.value) x.end) fin
+join_part g (Ok f) fin = record { joined = refl }
+join_part g (Err e) fin = record { joined = refl }
+
+-- where a part ends
+abbrev pub PartClear : {A : Type 0} → Place → Part A → Type 0
+PartClear p (Ok (Some f)) = Clear p f.end
+PartClear p (Ok None) = Unit {0}
+PartClear p (Err e) = Clear p e.at
+
+ends_clear : {A B : Type 0} (p : Place) (r : Part A) (fin : Read B) → Clear p (reach (join r fin)) → PartClear p r
+ends_clear p (Ok (Some f)) fin h = h
+ends_clear p (Ok None) fin h = tt
+ends_clear p (Err e) fin h = h
+
+pub part_clear : {A B : Type 0} (one : Place → Part A) (fin : Place → Read B) (turn : Place → Read (Next A B)) → ((p : Place) → turn p ≡ join (one p) (fin p)) → IsLike turn → (p : Place) → PartClear p (one p)
+part_clear {A} {B} one fin turn is all p = ends_clear p (one p) (fin p) (subst (λ (r : Read (Next A B)). Clear p (reach r)) (is p) (like_clear turn all p))
+
+-- a part that ends at a clear place and takes a character or more
+pub advances : {A : Type 0} (p : Place) (r : Part A) → PartClear p r → IsShorter p r → PartAhead 1 p r
+advances p (Ok (Some f)) h s = clear_nearer p f.end h s
+advances p (Ok None) h s = tt
+advances p (Err e) h s = tt

@@ -1,8 +1,9 @@
--- Names are local.
+-- Names are good.
 use Rattle.std.proofs.Common.{ℕ, ◌&&◌, nat_lt, if◌then◌else◌, List, length, refl, arith}
-use Rattle.yaml_lexeme.proofs.Locality.ComposedReaders.{IsLike, found_here, refuse_here, like_if, like_on, like_run}
+use Rattle.yaml_lexeme.proofs.CountedMarks.WholePlaces.{sure_alpha}
+use Rattle.yaml_lexeme.proofs.Locality.ComposedReaders.{IsLike, found_here, refuse_here, like_if, like_run, Good}
 use Rattle.yaml_lexeme.specs.Name.{is_after_name, name}
-use Rattle.yaml_lexeme.specs.Place.{Place, first, skip, run, after_run}
+use Rattle.yaml_lexeme.specs.Place.{Place, first, run, after_run}
 use Rattle.yaml_lexeme.specs.Reading.{Read, found, refuse}
 use Rattle.yaml_lexeme.specs.declared.problem.yaml_problem_t.TheVariants.{NO_NAME}
 use Rattle.yaml_text.specs.Classes.{is_alpha}
@@ -18,9 +19,6 @@ name_then_like letters n p q a =
 abbrev named_at : Place → Read (List ℕ)
 named_at p = name_then (run is_alpha p) (after_run is_alpha p)
 
-named_like : IsLike named_at
-named_like n p q a = like_run name_then name_then_like is_alpha n p q a
-
-pub name_like : IsLike name
+pub name_good : Good name
 unfolding name
-name_like n p q a = like_on named_at named_like n 1 p q (skip 1 p) (skip 1 q) a refl (λ h. refl)
+name_good = record { next = named_at; is = λ p. refl; like = λ n p q a. like_run name_then name_then_like is_alpha sure_alpha n p q a }

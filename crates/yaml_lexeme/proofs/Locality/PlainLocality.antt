@@ -1,11 +1,12 @@
--- Plain scalars are local.
+-- Plain scalars are good.
 use Rattle.std.proofs.Common.{◌≡◌, ℕ, ◌≤◌, Bool, true, false, not, ◌==◌, if◌then◌else◌, inl, inr, List, [], ◌∷◌, ◌++◌, length, take, slice_index, Option, Some, None, Ok, Err, refl, sym, ap, ◌∙◌, subst, arith}
 use Rattle.std.proofs.lemmas.Bool.{cases_Bool, eqb-true}
 use Rattle.std.proofs.lemmas.List.{length-take-le}
 use Rattle.std.specs.List.{list_any, flat_map}
 use Rattle.yaml_lexeme.proofs.Locality.PlainChunkLocality.{chunk_like, sep_run, sep_like}
 use Rattle.yaml_lexeme.proofs.Locality.ComposedReaders.{Like, IsLike, found_here, like_if, like_bind, like_map}
-use Rattle.yaml_lexeme.proofs.Locality.LookaheadLists.{Next, go, stop, join, finish, finish_like}
+use Rattle.yaml_lexeme.proofs.Locality.LookaheadLists.{Next, go, stop, join, finish, finish_like, Joins, join_if, PartClear, part_clear, advances}
+use Rattle.yaml_lexeme.proofs.MarkOrder.ReadingAhead.{PartAhead}
 use Rattle.yaml_lexeme.proofs.Places.PlaceMoves.{skip_none, after_none}
 use Rattle.yaml_lexeme.proofs.Readers.PlainLinks.{tab_at, separator_is, link_shortens, after_gap, tail_of}
 use Rattle.yaml_lexeme.proofs.Readers.FoldSeparators.{run_none}
@@ -76,32 +77,26 @@ chunk_empty flow e c h z =
     let none : k ≡ 0 = omega (arith, length-take-le k e.rest (chunk_within flow e.rest), ap length t.0, eqb-true (length c.value) 0 z) in
     t.1 ∙ ap (λ (i : ℕ). skip i e) none ∙ skip_none e
 
-by_length : (d : Bool) (b : Bool) (flow : Bool) (least : ℕ) (m : yaml_mark_t) (cs : List ℕ) (e : Place) (c : Found (List ℕ)) → (d ≡ true → c.end ≡ e)
-    → (if d then found (stop (m, b)) c.end else found (go (fold cs ++ c.value)) c.end) ≡ join (if d then over else part (fold cs ++ c.value) c.end) (found {A = Tail} (m, b) e)
-by_length true b flow least m cs e c h = ap (λ (x : Place). found (stop (m, b)) x) (h refl)
-by_length false b flow least m cs e c h = refl
+abbrev chunk_turn : Bool → yaml_mark_t → List ℕ → Read (List ℕ) → Read (Next (List ℕ) Tail)
+chunk_turn b m cs r = r >>= λ c. if length c.value == 0 then found (stop (m, b)) c.end else found (go (fold cs ++ c.value)) c.end
 
-by_chunk : (r : Read (List ℕ)) (b : Bool) (flow : Bool) (least : ℕ) (m : yaml_mark_t) (cs : List ℕ) (e : Place) → chunk flow e ≡ r
-    → (r >>= λ c. if length c.value == 0 then found (stop (m, b)) c.end else found (go (fold cs ++ c.value)) c.end)
-    ≡ join (r >>= λ c. if length c.value == 0 then over else part (fold cs ++ c.value) c.end) (found {A = Tail} (m, b) e)
-by_chunk (Ok c) b flow least m cs e h = by_length (length c.value == 0) b flow least m cs e c (λ z. chunk_empty flow e c h z)
-by_chunk (Err o) b flow least m cs e h = refl
+chunk_joins : (flow b : Bool) (m : yaml_mark_t) (cs : List ℕ) (e : Place) (r : Read (List ℕ)) → chunk flow e ≡ r
+    → Joins (chunk_turn b m cs r) (r >>= λ c. if length c.value == 0 then over else part (fold cs ++ c.value) c.end) (found (m, b) e)
+chunk_joins flow b m cs e (Ok c) h =
+    join_if (length c.value == 0) (λ z. record { joined = ap (λ (x : Place). found (stop (m, b)) x) (chunk_empty flow e c h z) }) (λ z. record { joined = refl })
+chunk_joins flow b m cs e (Err o) h = record { joined = refl }
 
-by_over : (o : Bool) (flow : Bool) (least : ℕ) (m : yaml_mark_t) (cs : List ℕ) (e : Place) → is_over flow least e ≡ o → turn_then flow least m cs e ≡ join (after_gap flow least (fold cs) e) (found {A = Tail} (m, list_any is_break cs) e)
-by_over true flow least m cs e h = rw h refl
-by_over false flow least m cs e h = rw h (by_chunk (chunk flow e) (list_any is_break cs) flow least m cs e refl)
-
-by_tab : (o : Option Place) (flow : Bool) (least : ℕ) (m : yaml_mark_t) (cs : List ℕ) (e : Place)
-    → (untabbed o cs e >>= λ g. turn_then flow least m g.value g.end) ≡ join (untabbed o (fold cs) e >>= λ gap. after_gap flow least gap.value gap.end) (found {A = Tail} (m, list_any is_break cs) e)
-by_tab None flow least m cs e = by_over (is_over flow least e) flow least m cs e refl
-by_tab (Some t) flow least m cs e = refl
+tab_joins : (o : Option Place) (flow : Bool) (least : ℕ) (m : yaml_mark_t) (cs : List ℕ) (e : Place)
+    → Joins (untabbed o cs e >>= λ g. turn_then flow least m g.value g.end) (untabbed o (fold cs) e >>= λ gap. after_gap flow least gap.value gap.end) (found (m, list_any is_break cs) e)
+tab_joins None flow least m cs e = join_if (is_over flow least e) (λ o. record { joined = refl }) (λ o. chunk_joins flow (list_any is_break cs) m cs e (chunk flow e) refl)
+tab_joins (Some t) flow least m cs e = record { joined = refl }
 
 -- a turn is a link, or what is read after the last
 turn_is : (flow : Bool) (least : ℕ) (p : Place) → turn flow least p ≡ join (link flow least p) (trailing p)
 unfolding link sep_run
 turn_is flow least p =
     elim (cases_Bool (is_white (first p))) [
-      | inl space ↦ rw (space, separator_is least p) (by_tab (tab_at least false p) flow least p.mark (run is_white p) (after_run is_white p))
+      | inl space ↦ rw (space, separator_is least p) (tab_joins (tab_at least false p) flow least p.mark (run is_white p) (after_run is_white p)).joined
       | inr other ↦ rw (other, after_none is_white p other, run_none is_white p other) refl
     ]
 
@@ -127,3 +122,9 @@ pub plain_like : (flow : Bool) (least : ℕ) → IsLike (plain flow least)
 plain_like flow least n p q a =
     rw (plain_is flow least p, plain_is flow least q) (like_bind _ _ a (chunk_like flow n p q a) (λ x z m b.
     like_map (scalar_of x.value) (finish_like (link flow least) trailing (turn flow least) (link_shortens flow least) (turn_is flow least) (turn_like flow least) m x.end z b)))
+
+pub link_clear : (flow : Bool) (least : ℕ) (p : Place) → PartClear p (link flow least p)
+link_clear flow least p = part_clear (link flow least) trailing (turn flow least) (turn_is flow least) (turn_like flow least) p
+
+pub link_advances : (flow : Bool) (least : ℕ) (p : Place) → PartAhead 1 p (link flow least p)
+link_advances flow least p = advances p (link flow least p) (link_clear flow least p) (link_shortens flow least p)

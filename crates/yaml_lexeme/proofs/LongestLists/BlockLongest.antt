@@ -4,10 +4,10 @@ use Rattle.yaml_lexeme.specs.declared.block.chomp_t.{chomp_t}
 use Rattle.yaml_lexeme.specs.declared.block.header_t.{header_t}
 use Rattle.yaml_lexeme.specs.Lexeme.{Scalar}
 use Rattle.yaml_lexeme.proofs.LongestLists.LongestParts.{Advances, many_longest, many_refused, found_of, refused_of, others_begin}
-use Rattle.yaml_lexeme.proofs.MarkOrder.ScalarsAhead.{blank_goes}
+use Rattle.yaml_lexeme.proofs.CountedMarks.WholeBlocks.{nearer_ahead, blank_nearer, text_nearer}
 use Rattle.yaml_lexeme.proofs.Parts.ReadResults.{value_or, end_or, both}
 use Rattle.yaml_lexeme.proofs.Readers.BlockLines.{blank_refused}
-use Rattle.yaml_lexeme.proofs.Readers.BlocksAlike.{text_goes, text_at, text_is, line_with}
+use Rattle.yaml_lexeme.proofs.Readers.BlocksAlike.{text_at, text_is, line_with}
 use Rattle.yaml_lexeme.specs.Block.{EmptyLine, TextLine, header_at, after_line, after_indent, empty_line, is_text, next_line, text_line, set_indent, block}
 use Rattle.yaml_lexeme.specs.Parts.{Piece, values, IsLongest, TextLineParts, TextLineIsParts, TextLineRefused, TextLineIsRefused, BlockParts, BlockIsLines, EmptyLinesAreLongest, TextLinesAreLongest, indent_of, block_scalar}
 use Rattle.yaml_lexeme.specs.Parts.TextLineRefused.{own_indent, next_indent}
@@ -15,10 +15,10 @@ use Rattle.yaml_lexeme.specs.Place.{Place, skip}
 use Rattle.yaml_lexeme.specs.Reading.{Offence, Found, Read, found, ◌>>=◌, Part, part, over, many}
 
 pub blank_advances : (limit : Option ℕ) → Advances (empty_line limit)
-blank_advances limit p = (blank_goes limit p).goes
+blank_advances limit p = nearer_ahead p (empty_line limit p) (blank_nearer limit p)
 
 pub line_advances : (indent : ℕ) → Advances (text_line indent)
-line_advances indent p = (text_goes indent p).goes
+line_advances indent p = nearer_ahead p (text_line indent p) (text_nearer indent p)
 
 -- ---- a text line
 

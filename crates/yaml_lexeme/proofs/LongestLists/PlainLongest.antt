@@ -13,12 +13,12 @@ use Rattle.yaml_lexeme.specs.Place.{Place, first, peek, skip, run, after_run}
 use Rattle.yaml_lexeme.specs.Plain.{is_bad_colon, is_chunk, chunk_len, chunk, bad_tab, separator, is_over, link, plain}
 use Rattle.yaml_lexeme.specs.inside.Words.{untabbed}
 use Rattle.yaml_lexeme.specs.Reading.{Offence, Found, Read, found, refuse, ◌>>=◌, Part, part, over, many}
-use Rattle.yaml_lexeme.proofs.LongestLists.LongestParts.{Advances, split, many_longest, many_refused, found_of}
+use Rattle.yaml_lexeme.proofs.LongestLists.LongestParts.{split, many_longest, many_refused, found_of}
 use Rattle.yaml_lexeme.proofs.LongestLists.LongestParts.{refused_of, joined_of, others_begin}
 use Rattle.yaml_lexeme.proofs.Places.PlaceMoves.{skip_none, rest_skip, peek_on}
 use Rattle.yaml_lexeme.proofs.Locality.PlainLocality.{unless_bad, chunk_within}
 use Rattle.yaml_lexeme.proofs.Readers.FoldSeparators.{stopped}
-use Rattle.yaml_lexeme.proofs.MarkOrder.ScalarsAhead.{link_goes}
+use Rattle.yaml_lexeme.proofs.Locality.PlainLocality.{link_advances}
 use Rattle.yaml_lexeme.proofs.Parts.ReadResults.{value_or, end_or, offence_or, both}
 use Rattle.yaml_lexeme.proofs.Readers.PlainLinks.{tail_of, after_head, plain_is}
 
@@ -263,9 +263,6 @@ pub link_over : LinkIsOver
 link_over flow least p = (over_from flow least p, over_to flow least p)
 
 -- plain scalars
-link_advances : (flow : Bool) (least : ℕ) → Advances (link flow least)
-link_advances flow least p = (link_goes flow least p).goes
-
 links_from : (flow : Bool) (least : ℕ) (p : Place) (f : Found Scalar) (head : Found (List ℕ)) → chunk flow p ≡ Ok head → (r : Read (List (List ℕ))) → many (link flow least) head.end ≡ r → tail_of head.value r ≡ Ok f → PlainParts flow least p f
 links_from flow least p f head starts (Ok b) e h =
     let l = many_longest (link flow least) (link_advances flow least) head.end b e in

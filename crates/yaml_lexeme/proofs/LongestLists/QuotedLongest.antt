@@ -12,15 +12,12 @@ use Rattle.yaml_lexeme.specs.Parts.{Piece, values, IsLongest, QuotedParts, Quote
 use Rattle.yaml_lexeme.specs.Place.{Place, first, peek, skip, after_run}
 use Rattle.yaml_lexeme.specs.Quoted.{quote, body_part, quoted}
 use Rattle.yaml_lexeme.specs.Reading.{Offence, Found, Read, refuse, ◌>>=◌, Part, part, over, many}
-use Rattle.yaml_lexeme.proofs.LongestLists.LongestParts.{Advances, many_longest, many_refused, found_of, refused_of, others_begin}
-use Rattle.yaml_lexeme.proofs.MarkOrder.ScalarsAhead.{body_goes}
+use Rattle.yaml_lexeme.proofs.LongestLists.LongestParts.{many_longest, many_refused, found_of, refused_of, others_begin}
+use Rattle.yaml_lexeme.proofs.Locality.QuotedLocality.{body_advances}
 use Rattle.yaml_lexeme.proofs.Parts.ReadResults.{value_or, end_or, offence_or, both}
 use Rattle.yaml_lexeme.proofs.Readers.QuotedBody.{finish, quoted_is}
 
 -- quoted scalars
-body_advances : (single : Bool) → Advances (body_part single)
-body_advances single p = (body_goes single p).goes
-
 -- what is not over
 other : (b : Bool) (x y : Part (List ℕ)) → (x ≡ over → ⊥) → (if b then x else y) ≡ over → y ≡ over
 other true x y never h = absurd (never h)

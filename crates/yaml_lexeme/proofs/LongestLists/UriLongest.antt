@@ -1,8 +1,8 @@
 -- Uris are the longest lists of characters and escapes.
 use Rattle.std.proofs.Common.{◌≡◌, ℕ, Bool, List, Ok, Err, refl, sym, ap, ◌∙◌, subst}
 use Rattle.std.specs.List.{concat}
-use Rattle.yaml_lexeme.proofs.LongestLists.LongestParts.{Advances, many_longest, many_refused, found_of, refused_of, others_begin}
-use Rattle.yaml_lexeme.proofs.Readers.UriOctets.{uri_ahead}
+use Rattle.yaml_lexeme.proofs.LongestLists.LongestParts.{many_longest, many_refused, found_of, refused_of, others_begin}
+use Rattle.yaml_lexeme.proofs.Locality.UriLocality.{uri_advances}
 use Rattle.yaml_lexeme.proofs.Parts.ReadResults.{value_or, end_or, offence_or, both}
 use Rattle.yaml_lexeme.specs.Parts.{Piece, values, IsLongest, UriParts, UriIsParts, UriIsRefused, UriPartsAreLongest}
 use Rattle.yaml_lexeme.specs.Place.{Place}
@@ -10,9 +10,6 @@ use Rattle.yaml_lexeme.specs.Reading.{Offence, Found, Read, found, ◌>>=◌, ov
 use Rattle.yaml_lexeme.specs.Uri.{uri_part, uri}
 
 -- uris
-uri_advances : (listed : Bool) → Advances (uri_part listed)
-uri_advances listed p = uri_ahead listed p
-
 abbrev concat_of : Read (List (List ℕ)) → Read (List ℕ)
 concat_of r = r >>= λ parts. found (concat parts.value) parts.end
 

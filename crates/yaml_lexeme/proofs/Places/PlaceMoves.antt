@@ -114,12 +114,15 @@ class_end SINGLE = refl
 class_end PLAIN = refl
 class_end FLOW = refl
 
-abbrev pub Goes : class_t → Place → Place → Type 0
-Goes class p q = after_run (class_test class) p ≡ after_run (class_test class) q
-
 pub within_if : (b : Bool) (p q r : Place) → length q.rest ≤ length p.rest → length r.rest ≤ length p.rest → length (cond b q r).rest ≤ length p.rest
 within_if true p q r hq hr = hq
 within_if false p q r hq hr = hr
+
+-- a run that is not empty
+pub run_nearer : (test : ℕ → Bool) (p : Place) → test (first p) ≡ true → test 0 ≡ false → length (after_run test p).rest < length p.rest
+run_nearer test p h none =
+    let t = after_run_more test p h none in
+    omega (arith, t.0, ap (λ (x : Place). length x.rest) t.1, length_skip (prefix_len test (skip 1 p).rest) (skip 1 p), length_one p)
 
 -- a character other than the end is in the text
 pub is_there : (p : Place) (k : ℕ) → 0 < peek p k → k < length p.rest

@@ -12,7 +12,7 @@ use Rattle.yaml_lexeme.specs.declared.problem.yaml_problem_t.TheVariants.{TAB_IN
 use Rattle.yaml_lexeme.proofs.Parts.GatheredParts.{gather, gathers_more, gathers_all, gathers_none}
 use Rattle.yaml_lexeme.proofs.Places.PlaceMoves.{after_none, length_skip, break_within}
 use Rattle.yaml_lexeme.proofs.Readers.FoldSeparators.{run_more, run_none, encode_some}
-use Rattle.yaml_lexeme.proofs.MarkOrder.ScalarsAhead.{blank_shortens, text_shortens}
+use Rattle.yaml_lexeme.proofs.CountedMarks.WholeBlocks.{blank_shortens, text_shortens}
 use Rattle.yaml_lexeme.proofs.Parts.ReadResults.{value_or, end_or}
 use Rattle.yaml_lexeme.specs.Block.{indent_len, after_indent, EmptyLine, empty_line, break_at, is_text}
 use Rattle.yaml_lexeme.specs.Block.{header_at, after_line, set_indent, block_indent, block, or_none}

@@ -19,8 +19,7 @@ use Rattle.yaml_lexeme.specs.inside.BlockAhead.{is_indenting}
 use Rattle.yaml_lexeme.specs.Lexeme.{Scalar}
 use Rattle.yaml_lexeme.specs.Place.{Place, first, skip, run, run_len, after_run}
 use Rattle.yaml_lexeme.specs.Reading.{Offence, Found, Read, found, refuse, ◌>>=◌, Part, part, over, many, with_front, go_on}
-use Rattle.yaml_lexeme.proofs.MarkOrder.ReadingAhead.{ahead_trans, ahead_here, PartGoes, part_if, over_goes, then_goes, part_bind, part_goes, many_goes, to_part_bind, part_shorter}
-use Rattle.yaml_lexeme.proofs.MarkOrder.ScalarsAhead.{blank_goes, indent_goes, line_some, inner, text_shortens}
+use Rattle.yaml_lexeme.proofs.CountedMarks.WholeBlocks.{nearer_shorter, text_nearer, text_shortens}
 use Rattle.yaml_lexeme.proofs.Parts.PartByPart.{Shortens, many_turn}
 use Rattle.yaml_lexeme.proofs.Readers.QuotedRuns.{column_after}
 
@@ -78,20 +77,8 @@ pub text_is : (indent : ℕ) (p : Place) → text_line indent p ≡ after_indent
 unfolding text_line
 text_is indent p = refl
 
-not_false : (b : Bool) → not b ≡ false → b ≡ true
-not_false true h = refl
-not_false false h = absurd cc
-
-pub text_goes : (indent : ℕ) (p : Place) → PartGoes 1 p (text_line indent p)
-unfolding text_line
-text_goes indent p =
-    to_part_bind 0 (ahead_here p) (indent_goes (Some indent) p) (λ q a.
-    part_if (not (is_text indent q)) (λ b. over_goes) (λ b.
-    let some = line_some q (inner (q.mark.column == indent) _ (not_false (is_text indent q) b)) in
-    part_bind 1 (then_goes 1 0 (ahead_trans 0 1 p q (next_line q) a some) (many_goes (empty_line (Some indent)) (blank_goes (Some indent)) (next_line q))) (λ empties c. part_goes c)))
-
 shortens : (indent : ℕ) → Shortens (text_line indent)
-shortens indent p = part_shorter p (text_line indent p) (text_goes indent p).goes
+shortens indent p = nearer_shorter p (text_line indent p) (text_nearer indent p)
 
 -- lines, and the mark after the last one
 abbrev Pair : Type 0

@@ -1,6 +1,6 @@
 -- Chunks, separators and ends of plain scalars are read a character at a time.
 use Rattle.std.proofs.Common.{◌≡◌, ℕ, zero, suc, ◌+◌, ◌<◌, ◌≤◌, Bool, true, false, cond, not, ◌==◌, ◌&&◌, ◌||◌, if◌then◌else◌, inl, inr, List, [], ◌∷◌, ◌++◌, length, take, drop, slice_index, Option, Some, None, Ok, Err, refl, sym, ap, ◌∙◌, subst, arith}
-use Rattle.std.proofs.lemmas.Bool.{cases_Bool}
+use Rattle.std.proofs.lemmas.Bool.{not-false, cases_Bool}
 use Rattle.std.proofs.lemmas.Bool.Decides.{nat_tests}
 use Rattle.std.specs.List.{flat_map, list_any, find, prefix_len, range_with_len}
 use Rattle.yaml_text.specs.declared.types.yaml_mark_t.{yaml_mark_t}
@@ -9,8 +9,9 @@ use Rattle.yaml_lexeme.specs.declared.problem.yaml_refusal_t.TheVariants as erro
 use Rattle.yaml_lexeme.specs.declared.problem.yaml_problem_t.{yaml_problem_t}
 use Rattle.yaml_lexeme.specs.Lexeme.{Scalar}
 use Rattle.yaml_lexeme.specs.declared.problem.yaml_problem_t.TheVariants.{COLON_IN_FLOW, TAB_IN_PLAIN}
-use Rattle.yaml_lexeme.proofs.Parts.PartByPart.{IsShorter, Shortens, joined}
-use Rattle.yaml_lexeme.proofs.Places.PlaceMoves.{length_skip, length_one, is_there, after_run_more, after_none, blank_white, first_on, rest_skip, skip_none, skip_skip}
+use Rattle.yaml_lexeme.proofs.Parts.HeldReads.{ok_holds, refuse_holds, if_holds, bind_holds, Nears, PartNears, nears_shorter}
+use Rattle.yaml_lexeme.proofs.Parts.PartByPart.{Shortens, joined}
+use Rattle.yaml_lexeme.proofs.Places.PlaceMoves.{run_nearer, length_skip, length_one, is_there, after_run_more, after_none, blank_white, first_on, rest_skip, skip_none, skip_skip}
 use Rattle.yaml_lexeme.proofs.Readers.FoldSeparators.{run_more, run_none, after_run_blanks, stopped as run_stopped}
 use Rattle.yaml_lexeme.proofs.Parts.ReadResults.{value_or, end_or}
 use Rattle.yaml_lexeme.specs.Classes.{is_white, ends}
@@ -270,19 +271,6 @@ nothing_there flow least p q start old g o b h e =
     let c : chunk flow q ≡ found [] q = chunk_stop flow q h ∙ rw b refl in
     same_none (link flow least p) old p start (at_gap flow least p q g ∙ rw (o, c) refl) e
 
--- what was read ends nearer to the text's end
-abbrev EndsNear : Place → Read (List ℕ) → Type 0
-EndsNear p (Ok f) = length f.end.rest < length p.rest
-EndsNear p (Err e) = Unit {0}
-
-near_if : (b : Bool) (value : List ℕ) (p q : Place) → length q.rest < length p.rest → EndsNear p (stopped_at b value q)
-near_if true value p q h = tt
-near_if false value p q h = h
-
-nothing_or : (b : Bool) (value : List ℕ) (p q : Place) → length q.rest < length p.rest → IsShorter p (if b then over else part value q)
-nothing_or true value p q h = tt
-nothing_or false value p q h = h
-
 blank_no_break : (c : ℕ) → is_blank c ≡ true → is_break c ≡ false
 blank_no_break c h = grind (arith, nat_tests)
 
@@ -292,33 +280,29 @@ break_space c h = grind (arith, nat_tests)
 neither_space : (c : ℕ) → is_break c ≡ false → is_blank c ≡ false → is_white c ≡ false
 neither_space c e h = grind (arith, nat_tests)
 
-shorter_gap : (o : Bool) (r : Read (List ℕ)) (gap : List ℕ) (p : Place) → EndsNear p r → IsShorter p (if o then over else r >>= λ c. if length c.value == 0 then over else part (gap ++ c.value) c.end)
-shorter_gap true r gap p h = tt
-shorter_gap false (Ok f) gap p h = nothing_or (length f.value == 0) (gap ++ f.value) p f.end h
-shorter_gap false (Err e) gap p h = tt
-
-chunk_near : (flow : Bool) (p q : Place) → length q.rest < length p.rest → EndsNear p (chunk flow q)
+-- each link takes a character or more
+near_chunk : (flow : Bool) (p q : Place) → length q.rest < length p.rest → Nears p (chunk flow q)
 unfolding chunk
-chunk_near flow p q h =
+near_chunk flow p q h =
     let n = chunk_len flow q.rest in
     let end = skip n q in
-    near_if (is_bad_colon flow (first end) (peek end 1)) (take n q.rest) p end (omega (arith, length_skip n q))
+    if_holds (is_bad_colon flow (first end) (peek end 1)) (λ e. refuse_holds tt) (λ e. ok_holds (omega (arith, h, length_skip n q)))
 
-shorter_tab : (o : Option Place) (flow : Bool) (least : ℕ) (gap : List ℕ) (p q : Place) → length q.rest < length p.rest → IsShorter p (untabbed o gap q >>= λ g. after_gap flow least g.value g.end)
-shorter_tab None flow least gap p q h = shorter_gap (is_over flow least q) (chunk flow q) gap p (chunk_near flow p q h)
-shorter_tab (Some t) flow least gap p q h = tt
+near_untabbed : (o : Option Place) (value : List ℕ) (p q : Place) → length q.rest < length p.rest → Nears p (untabbed o value q)
+near_untabbed None value p q h = ok_holds h
+near_untabbed (Some t) value p q h = refuse_holds tt
 
--- each link takes a character or more
+near_link : (flow : Bool) (least : ℕ) (p : Place) → PartNears p (link flow least p)
+unfolding link
+near_link flow least p =
+    if_holds (not (is_white (first p))) (λ e. ok_holds tt) (λ e.
+    let gap_near : Nears p (separator least p) = rw (separator_is least p) (near_untabbed (tab_at least false p) (fold (run is_white p)) p (after_run is_white p) (run_nearer is_white p (not-false (is_white (first p)) e) refl)) in
+    bind_holds gap_near (λ gap n.
+    if_holds (is_over flow least gap.end) (λ o. ok_holds tt) (λ o.
+    bind_holds (near_chunk flow p gap.end n) (λ c m. if_holds (length c.value == 0) (λ z. ok_holds tt) (λ z. ok_holds m)))))
+
 pub link_shortens : (flow : Bool) (least : ℕ) → Shortens (link flow least)
-link_shortens flow least p =
-    elim (cases_Bool (is_white (first p))) [
-      | inl space ↦
-          let t = after_run_more is_white p space refl in
-          let q = after_run is_white p in
-          let near : length q.rest < length p.rest = rw t.1 (omega (arith, t.0, length_skip (run_len is_white (skip 1 p)) (skip 1 p), length_skip 1 p)) in
-          rw (link_gap flow least p space, separator_is least p) (shorter_tab (tab_at least false p) flow least (fold (run is_white p)) p q near)
-      | inr other ↦ rw (link_none flow least p other) tt
-    ]
+link_shortens flow least p = nears_shorter p (link flow least p) (near_link flow least p)
 
 -- a scalar, from the bytes and the place where its last chunk ends
 abbrev pub scalar_at : List ℕ → Place → Read Scalar

@@ -1,24 +1,21 @@
 -- The octets, escapes and characters of a uri are read one by one.
-use Rattle.std.proofs.Common.{◌≡◌, ℕ, zero, suc, ◌-◌, ◌<◌, ◌≤◌, Bool, true, false, cond, ◌==◌, ◌&&◌, inl, inr, List, []}
+use Rattle.std.proofs.Common.{◌≡◌, ℕ, zero, suc, ◌-◌, ◌<◌, ◌≤◌, Bool, true, false, cond, ◌==◌, List, []}
 use Rattle.std.proofs.Common.{◌∷◌, ◌++◌, length, Result, Ok, Err, refl, sym, ap, ◌∙◌, arith, append_assoc, not}
-use Rattle.std.proofs.lemmas.Bool.{cases_Bool}
 use Rattle.std.proofs.lemmas.Bool.Decides.{nat_tests}
 use Rattle.std.proofs.lemmas.List.{append-nil}
 use Rattle.std.proofs.lemmas.List.Concat.{concat_is}
 use Rattle.std.specs.List.{concat}
-use Rattle.std.specs.Str.Parse.{digits_value}
 use Rattle.yaml_lexeme.specs.declared.problem.yaml_refusal_t.{yaml_refusal_t}
 use Rattle.yaml_lexeme.specs.declared.problem.yaml_refusal_t.TheVariants as errors
-use Rattle.yaml_lexeme.specs.declared.problem.yaml_problem_t.TheVariants.{NO_OCTET, BAD_NEXT_OCTET, BAD_LEAD_OCTET}
-use Rattle.yaml_lexeme.proofs.MarkOrder.ReadingAhead.{Ahead, PartAhead, ahead_here, ahead_skip, ahead_some, if_ahead, bind_ahead, bind_part, then_ahead, part_shorter}
+use Rattle.yaml_lexeme.specs.declared.problem.yaml_problem_t.TheVariants.{BAD_NEXT_OCTET, BAD_LEAD_OCTET}
+use Rattle.yaml_lexeme.proofs.Parts.HeldReads.{Holds, ok_holds, refuse_holds, if_holds, bind_holds, Nears, PartNears, nears_shorter}
 use Rattle.yaml_lexeme.proofs.Parts.PartByPart.{Shortens, joined}
-use Rattle.yaml_lexeme.proofs.Places.PlaceMoves.{is_there}
+use Rattle.yaml_lexeme.proofs.Places.PlaceMoves.{is_there, length_skip}
 use Rattle.yaml_lexeme.proofs.Parts.ReadResults.{value_or, end_or}
 use Rattle.yaml_lexeme.specs.inside.Gives.{Refuses, TakesPart, TakesRead, Appends}
-use Rattle.yaml_lexeme.specs.Place.{Place, first, peek, skip}
-use Rattle.yaml_lexeme.specs.Reading.{Read, found, part, refuse, over, many, with_front, ◌>>=◌}
-use Rattle.yaml_lexeme.specs.Uri.{octet, next_octets, uri_escape, uri_part, is_uri, uri}
-use Rattle.yaml_text.specs.Classes.{is_hex}
+use Rattle.yaml_lexeme.specs.Place.{Place, first, skip}
+use Rattle.yaml_lexeme.specs.Reading.{Found, Read, found, part, refuse, over, many, with_front, ◌>>=◌}
+use Rattle.yaml_lexeme.specs.Uri.{is_octet, octet, next_octets, uri_escape, uri_part, is_uri, uri}
 use Rattle.yaml_text.specs.Utf8.{width_of, continues}
 
 -- what was appended to `old` is what was read
@@ -136,43 +133,34 @@ at_over listed p e h = rw (e, h) refl
 uri_there : (listed : Bool) (c : ℕ) → is_uri listed c ≡ true → 0 < c
 uri_there listed c h = grind (arith, nat_tests)
 
-octet_is : (p : Place) → octet p ≡ cond (first p == 0x25 && (is_hex (peek p 1) && is_hex (peek p 2))) (found (digits_value 16 (peek p 1 ∷ peek p 2 ∷ [])) (skip 3 p)) (refuse NO_OCTET p)
-unfolding octet
-octet_is p = refl
-
-octet_ahead : (m : ℕ) (p : Place) → m ≤ 3 → m ≤ length p.rest → Ahead m p (octet p)
-octet_ahead m p k h =
-    rw octet_is (if_ahead (first p == 0x25 && (is_hex (peek p 1) && is_hex (peek p 2))) m p (found (digits_value 16 (peek p 1 ∷ peek p 2 ∷ [])) (skip 3 p)) (refuse NO_OCTET p) (ahead_some m 3 p k h) tt)
-
-next_ahead : (n : ℕ) (p : Place) → Ahead 0 p (next_octets n p)
-next_ahead zero p = rw (no_octets p) (ahead_here p)
-next_ahead (suc n) p =
-    rw (next_is n p) (bind_ahead 0 0 p (octet p) (λ c. cond (not (continues c.value)) (refuse BAD_NEXT_OCTET p) (with_front (c.value ∷ []) (next_octets n c.end))) (octet_ahead 0 p (omega arith) (omega arith))
-    (λ x a. if_ahead (not (continues x.value)) 0 p (refuse BAD_NEXT_OCTET p) (with_front (x.value ∷ []) (next_octets n x.end)) tt
-    (bind_ahead 0 0 p (next_octets n x.end) (λ r. found (x.value ∷ r.value) r.end) (then_ahead 0 0 p x.end (next_octets n x.end) a (next_ahead n x.end)) (λ y b. b))))
-
-pub escape_ahead : (p : Place) → 0 < length p.rest → Ahead 1 p (uri_escape p)
-escape_ahead p h =
-    rw (escape_is p) (bind_ahead 1 1 p (octet p) (λ c. cond (width_of c.value == 0) (refuse BAD_LEAD_OCTET p) (with_front (c.value ∷ []) (next_octets (width_of c.value - 1) c.end))) (octet_ahead 1 p (omega arith) (omega arith))
-    (λ x a. if_ahead (width_of x.value == 0) 1 p (refuse BAD_LEAD_OCTET p) (with_front (x.value ∷ []) (next_octets (width_of x.value - 1) x.end)) tt
-    (bind_ahead 1 1 p (next_octets (width_of x.value - 1) x.end) (λ r. found (x.value ∷ r.value) r.end) (then_ahead 1 0 p x.end (next_octets (width_of x.value - 1) x.end) a (next_ahead (width_of x.value - 1) x.end)) (λ y b. b))))
-
 -- each part takes a character or more
-pub uri_ahead : (listed : Bool) (p : Place) → PartAhead 1 p (uri_part listed p)
-uri_ahead listed p =
-    elim (cases_Bool (first p == 0x25)) [
-      | inl e ↦
-          let there : 0 < length p.rest = is_there p 0 (grind (arith, nat_tests)) in
-          rw (at_percent listed p e) (bind_part 1 1 p (uri_escape p) (λ r. part r.value r.end) (escape_ahead p there) (λ x a. a))
-      | inr e ↦
-          elim (cases_Bool (is_uri listed (first p))) [
-            | inl h ↦ rw (at_uri listed p e h) (ahead_skip 1 p (is_there p 0 (uri_there listed (first p) h)))
-            | inr h ↦ rw (at_over listed p e h) tt
-          ]
-    ]
+octet_no_longer : (p : Place) → Holds (λ (f : Found ℕ). length f.end.rest ≤ length p.rest) (λ x. Unit {0}) (octet p)
+unfolding octet
+octet_no_longer p = if_holds (is_octet p) (λ e. ok_holds (omega (arith, length_skip 3 p))) (λ e. refuse_holds tt)
+
+next_no_longer : (n : ℕ) (p : Place) → Holds (λ (f : Found (List ℕ)). length f.end.rest ≤ length p.rest) (λ x. Unit {0}) (next_octets n p)
+unfolding next_octets
+next_no_longer zero p = ok_holds (omega arith)
+next_no_longer (suc n) p =
+    bind_holds (octet_no_longer p) (λ c a. if_holds (not (continues c.value)) (λ e. refuse_holds tt) (λ e. bind_holds (next_no_longer n c.end) (λ more b. ok_holds (omega (arith, a, b)))))
+
+near_octet : (p : Place) → 0 < length p.rest → Nears p (octet p)
+unfolding octet
+near_octet p h = if_holds (is_octet p) (λ e. ok_holds (omega (arith, h, length_skip 3 p))) (λ e. refuse_holds tt)
+
+near_escape : (p : Place) → 0 < length p.rest → Nears p (uri_escape p)
+unfolding uri_escape
+near_escape p h =
+    bind_holds (near_octet p h) (λ lead a. if_holds (width_of lead.value == 0) (λ e. refuse_holds tt) (λ e. bind_holds (next_no_longer (width_of lead.value - 1) lead.end) (λ more b. ok_holds (omega (arith, a, b)))))
+
+near_part : (listed : Bool) (p : Place) → PartNears p (uri_part listed p)
+unfolding uri_part
+near_part listed p =
+    if_holds (first p == 0x25) (λ e. let there : 0 < length p.rest = is_there p 0 (grind (arith, nat_tests)) in bind_holds (near_escape p there) (λ r a. ok_holds a)) (λ e.
+    if_holds (is_uri listed (first p)) (λ u. ok_holds (omega (arith, is_there p 0 (uri_there listed (first p) u), length_skip 1 p))) (λ u. ok_holds tt))
 
 pub uri_shortens : (listed : Bool) → Shortens (uri_part listed)
-uri_shortens listed p = part_shorter p (uri_part listed p) (uri_ahead listed p)
+uri_shortens listed p = nears_shorter p (uri_part listed p) (near_part listed p)
 
 concat_joined : (r : Read (List (List ℕ))) → (r >>= λ parts. found (concat parts.value) parts.end) ≡ joined (λ cs. cs) r
 concat_joined (Ok f) = ap (λ (bs : List ℕ). found bs f.end) (concat_is f.value)

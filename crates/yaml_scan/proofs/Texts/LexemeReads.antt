@@ -30,12 +30,12 @@ use Rattle.yaml_lexeme.specs.StreamEnd.{stream_end}
 use Rattle.yaml_lexeme.specs.Locality.{reach}
 use Rattle.yaml_lexeme.proofs.Places.PlaceMoves.{skip_none}
 use Rattle.yaml_lexeme.proofs.Locality.LocalReaders.{EndsAt}
-use Rattle.yaml_lexeme.proofs.Locality.ComposedReaders.{IsLike, agree_self, like_of}
-use Rattle.yaml_lexeme.proofs.Locality.BlockLocality.{block_like}
-use Rattle.yaml_lexeme.proofs.Locality.QuotedLocality.{quoted_local}
-use Rattle.yaml_lexeme.proofs.Locality.DirectiveLocality.{directive_like}
-use Rattle.yaml_lexeme.proofs.Locality.NameLocality.{name_like}
-use Rattle.yaml_lexeme.proofs.Locality.TagLocality.{tag_like}
+use Rattle.yaml_lexeme.proofs.Locality.ComposedReaders.{IsLike, local_of, Good, good_local}
+use Rattle.yaml_lexeme.proofs.Locality.BlockLocality.{block_good}
+use Rattle.yaml_lexeme.proofs.Locality.QuotedLocality.{quoted_good}
+use Rattle.yaml_lexeme.proofs.Locality.DirectiveLocality.{directive_good}
+use Rattle.yaml_lexeme.proofs.Locality.NameLocality.{name_good}
+use Rattle.yaml_lexeme.proofs.Locality.TagLocality.{tag_good}
 use Rattle.yaml_lexeme.proofs.Locality.PlainLocality.{plain_like}
 use Rattle.yaml_scan.specs.Kind.{Kind}
 use Rattle.yaml_scan.specs.Token.{type_of}
@@ -55,9 +55,12 @@ ends_on : {A : Type 0} (p : Place) (r : Read A) (n : ℕ) → EndsAt n p r → G
 ends_on p (Ok f) n e = (n, e)
 ends_on p (Err o) n e = (n, e)
 
--- what is like itself
+-- by a good reader
+good_on : {A : Type 0} (p : Place) (read : Place → Read A) → Good read → GoesOn p (read p)
+good_on p read g = let x = good_local read g p in ends_on p (read p) x.count x.ends
+
 like_on : {A : Type 0} (p : Place) (read : Place → Read A) → IsLike read → GoesOn p (read p)
-like_on p read l = let x = l 0 p p (agree_self p) in ends_on p (read p) x.count x.ends
+like_on p read l = let x = local_of read l p in ends_on p (read p) x.count x.ends
 
 -- and what is made of it
 made_on : {A B : Type 0} (p : Place) (r : Read A) (make : Found A → B) → GoesOn p r → GoesOn p (r >>= λ x. found (make x) x.end)
@@ -67,7 +70,7 @@ made_on p (Err o) make g = g
 pub lex_goes_on : (k : Kind) (c : yaml_context_t) (p : Place) → GoesOn p (lex k c p)
 unfolding lex
 lex_goes_on kind.STREAM_END c p = (0, sym (skip_none p))
-lex_goes_on kind.DIRECTIVE c p = made_on p (directive p) (λ x. directive_to p.mark x.value x.end.mark) (like_on p directive directive_like)
+lex_goes_on kind.DIRECTIVE c p = made_on p (directive p) (λ x. directive_to p.mark x.value x.end.mark) (good_on p directive directive_good)
 lex_goes_on kind.DOCUMENT_START c p = (3, refl)
 lex_goes_on kind.DOCUMENT_END c p = (3, refl)
 lex_goes_on kind.FLOW_SEQUENCE_START c p = (1, refl)
@@ -78,13 +81,13 @@ lex_goes_on kind.FLOW_ENTRY c p = (1, refl)
 lex_goes_on kind.BLOCK_ENTRY c p = (1, refl)
 lex_goes_on kind.KEY c p = (1, refl)
 lex_goes_on kind.VALUE c p = (1, refl)
-lex_goes_on kind.ALIAS c p = made_on p (name p) (λ x. whole_of (token.ALIAS x.value) p.mark x.end.mark) (like_on p name name_like)
-lex_goes_on kind.ANCHOR c p = made_on p (name p) (λ x. whole_of (token.ANCHOR x.value) p.mark x.end.mark) (like_on p name name_like)
-lex_goes_on kind.TAG c p = made_on p (tag (in_flow c) p) (λ x. whole_of x.value p.mark x.end.mark) (like_on p (tag (in_flow c)) (tag_like (in_flow c)))
-lex_goes_on kind.LITERAL c p = made_on p (block false c.level p) (λ x. scalar_to YAML_LITERAL_SCALAR_STYLE p.mark x.value x.end.mark) (like_on p (block false c.level) (block_like false c.level))
-lex_goes_on kind.FOLDED c p = made_on p (block true c.level p) (λ x. scalar_to YAML_FOLDED_SCALAR_STYLE p.mark x.value x.end.mark) (like_on p (block true c.level) (block_like true c.level))
-lex_goes_on kind.SINGLE_QUOTED c p = made_on p (quoted true p) (λ x. whole_of (quoted_as YAML_SINGLE_QUOTED_SCALAR_STYLE x.value) p.mark x.end.mark) (like_on p (quoted true) (like_of (quoted true) (quoted_local true)))
-lex_goes_on kind.DOUBLE_QUOTED c p = made_on p (quoted false p) (λ x. whole_of (quoted_as YAML_DOUBLE_QUOTED_SCALAR_STYLE x.value) p.mark x.end.mark) (like_on p (quoted false) (like_of (quoted false) (quoted_local false)))
+lex_goes_on kind.ALIAS c p = made_on p (name p) (λ x. whole_of (token.ALIAS x.value) p.mark x.end.mark) (good_on p name name_good)
+lex_goes_on kind.ANCHOR c p = made_on p (name p) (λ x. whole_of (token.ANCHOR x.value) p.mark x.end.mark) (good_on p name name_good)
+lex_goes_on kind.TAG c p = made_on p (tag (in_flow c) p) (λ x. whole_of x.value p.mark x.end.mark) (good_on p (tag (in_flow c)) (tag_good (in_flow c)))
+lex_goes_on kind.LITERAL c p = made_on p (block false c.level p) (λ x. scalar_to YAML_LITERAL_SCALAR_STYLE p.mark x.value x.end.mark) (good_on p (block false c.level) (block_good false c.level))
+lex_goes_on kind.FOLDED c p = made_on p (block true c.level p) (λ x. scalar_to YAML_FOLDED_SCALAR_STYLE p.mark x.value x.end.mark) (good_on p (block true c.level) (block_good true c.level))
+lex_goes_on kind.SINGLE_QUOTED c p = made_on p (quoted true p) (λ x. whole_of (quoted_as YAML_SINGLE_QUOTED_SCALAR_STYLE x.value) p.mark x.end.mark) (good_on p (quoted true) (quoted_good true))
+lex_goes_on kind.DOUBLE_QUOTED c p = made_on p (quoted false p) (λ x. whole_of (quoted_as YAML_DOUBLE_QUOTED_SCALAR_STYLE x.value) p.mark x.end.mark) (good_on p (quoted false) (quoted_good false))
 lex_goes_on kind.PLAIN c p = made_on p (plain (in_flow c) (least c) p) (λ x. scalar_to YAML_PLAIN_SCALAR_STYLE p.mark x.value x.end.mark) (like_on p (plain (in_flow c) (least c)) (plain_like (in_flow c) (least c)))
 
 -- WHAT IT SAYS

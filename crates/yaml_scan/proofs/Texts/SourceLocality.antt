@@ -12,7 +12,7 @@ use Rattle.yaml_lexeme.specs.Lex.{lex}
 use Rattle.yaml_lexeme.specs.Locality.{reach, move}
 use Rattle.yaml_lexeme.proofs.Locality.AgreeingPlaces.{Agree, some_same, same_or_long, get_index}
 use Rattle.yaml_lexeme.proofs.Places.PlaceMoves.{length_skip, skip_skip}
-use Rattle.yaml_lexeme.proofs.MarkOrder.SmallReadersAhead.{gap_order}
+use Rattle.yaml_lexeme.proofs.MarkOrder.PlaceOrder.{gap_order}
 use Rattle.yaml_lexeme.proofs.Locality.ComposedReaders.{agree_after}
 use Rattle.yaml_lexeme.proofs.Locality.LocalReaders.{agree_less}
 use Rattle.yaml_lexeme.proofs.Locality.GapLocality.{gap_local_to}

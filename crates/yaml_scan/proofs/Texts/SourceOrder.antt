@@ -23,7 +23,7 @@ use Rattle.yaml_lexeme.specs.Order.{IsAhead, IsAfter}
 use Rattle.yaml_lexeme.proofs.Places.PlaceMoves.{length_skip, skip_skip, stays}
 use Rattle.yaml_text.specs.declared.types.yaml_error_type_t.TheVariants.{YAML_SCANNER_ERROR}
 use Rattle.yaml_lexeme.proofs.MarkOrder.ReadingAhead.{spans_end}
-use Rattle.yaml_lexeme.proofs.MarkOrder.SmallReadersAhead.{gap_order}
+use Rattle.yaml_lexeme.proofs.MarkOrder.PlaceOrder.{gap_order}
 use Rattle.yaml_lexeme.proofs.MarkOrder.LexemeOrder.{lexeme_spans, lexeme_order}
 use Rattle.yaml_lexeme.specs.Locality.{reach}
 use Rattle.yaml_scan.proofs.Texts.LexemeReads.{lex_goes_on, says_kind}

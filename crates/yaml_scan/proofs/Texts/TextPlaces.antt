@@ -22,7 +22,7 @@ use Rattle.yaml_lexeme.proofs.Places.CursorMoves.{place_index, place_within}
 use Rattle.std.specs.Option.{IfSome}
 use Rattle.std.specs.Prelude.{is_err}
 use Rattle.yaml_text.specs.Chars.{utf8}
-use Rattle.yaml_lexeme.proofs.MarkOrder.SmallReadersAhead.{gap_order}
+use Rattle.yaml_lexeme.proofs.MarkOrder.PlaceOrder.{gap_order}
 use Rattle.yaml_scan.specs.inside.Scanner.{Scanner}
 use Rattle.yaml_scan.specs.Kind.{Kind}
 use Rattle.yaml_scan.specs.SourceOf.{source_of, count_to, reading, reading_of}

@@ -1,4 +1,4 @@
-use Rattle.yaml_lexeme.proofs.MarkOrder.SmallReadersAhead as law
+use Rattle.yaml_lexeme.proofs.MarkOrder.PlaceOrder as law
 use Rattle.yaml_lexeme.proofs.laws.gap_order.Goals as goal
 
 pub returns : goal.returns
