@@ -9,12 +9,14 @@ pub mod TestsBefore
 pub mod LevelStack
 -- What the slot of each depth holds after one lexeme more.
 pub mod SlotsOneOn
--- A scanner that was given room holds what it held.
-pub mod RoomMade
+-- What a scanner holds is held by another one with the same parts, or with more room.
+pub mod HeldBeside
 -- What the whole scanner holds after one lexeme more.
 pub mod ScannerOneOn
 -- The tests of a step after its lexeme, and that the lexeme is laid as the definition says.
 pub mod StepLaid
+-- A lexeme and what comes right after it are laid together, if the second one can be laid after the first.
+pub mod TwoLaid
 -- A candidate and what decides it are laid at once as they are laid one after the other.
 pub mod DecidedLaid
 -- A lexeme that was read is laid if levels, queue and slots change as its definition says.

@@ -9,6 +9,7 @@ pub mod Scanner
 pub mod StepFaults
 pub mod StepParts
 pub mod NearFault
+pub mod Holding
 pub mod Scanning
 pub mod Handed
 pub mod Given

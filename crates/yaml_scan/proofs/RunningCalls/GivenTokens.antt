@@ -22,17 +22,18 @@ use Rattle.yaml_scan.specs.Token.{yaml_token_t}
 use Rattle.yaml_scan.specs.inside.Given.{HasGiven, IsCutOff, StopsGiving, all_in, told_all, told_taken}
 use Rattle.yaml_scan.specs.inside.Handed.{AllSettled, Empties, HandsOut, IsCut, StepsTo, is_end}
 use Rattle.yaml_scan.specs.inside.Queue.{IsQueue}
-use Rattle.yaml_scan.specs.inside.Scanning.{CanStep, Holds, groups_in, IsOpen, Makes, IsRunning, Same, course_of, history, input_of}
+use Rattle.yaml_scan.specs.inside.Holding.{HoldsQueue}
+use Rattle.yaml_scan.specs.inside.Scanning.{CanStep, groups_in, IsOpen, Makes, IsRunning, RunsWith, Same, course_of, history, input_of}
 use Rattle.yaml_scan.proofs.Course.AnswerOrder.{AllFit, course_fits}
 use Rattle.yaml_scan.proofs.Course.CourseSteps.{last_token}
 use Rattle.yaml_scan.proofs.Course.NextStep.{oldest_all}
-use Rattle.yaml_scan.proofs.Course.StepsNeeded.{oldest_length, split}
+use Rattle.yaml_scan.proofs.Course.StepsNeeded.{split}
 use Rattle.yaml_scan.proofs.TokenList.OneLexemeMore.{all_is_handed_out}
 use Rattle.yaml_scan.proofs.TokenList.SettledStays.{before-before}
 use Rattle.yaml_scan.proofs.Texts.TextOrder.{text_order}
 use Rattle.yaml_scan.proofs.RunningQueue.CandidateGroup.{count, count_groups}
 use Rattle.yaml_scan.proofs.RunningQueue.WholeQueue.{all_are_settled, queue_told, whole_front}
-use Rattle.yaml_scan.proofs.RunningCalls.NextOfInput.{RunsWith, ends_last, few_made, inside_with, is_run_with, read_history_with, runs_on, runs_with, some_steps}
+use Rattle.yaml_scan.proofs.RunningCalls.NextOfInput.{ends_last, few_made, history_length, inside, is_run, read_history, some_steps, runs_queued}
 use Rattle.yaml_scan.proofs.RunningCalls.StepsMade.{ended_all, still_running}
 
 -- ONE AFTER THE OTHER
@@ -109,28 +110,22 @@ pub steps_within : (s t : Scanner) (xs : List yaml_token_t) → HasGiven s t xs 
 steps_within s t xs g = let w = g.runs.within in let c = ap (λ (x : Course). length x.read) (course_as s t g.text g.refusal g.limit) in omega arith
 
 -- WHAT IS SETTLED IS GIVEN
-module _ (s : Scanner) (ys : List group_t) (r : RunsWith s ys) where
-  settled_begins_with : Begins (before s.limit (history s)) (all_in s)
+module _ (s : Scanner) {ys : List group_t} (r : RunsWith s ys) where
+  pub settled_begins : Begins (before s.limit (history s)) (all_in s)
   unfolding history
-  settled_begins_with =
-      let z = split (course_of s).read (s.made - 1) (inside_with s ys r) in
-      let b = before-before s.limit z.0 (history s) (subst (λ (X : List Laid). IsHistory s.limit X) z.1 (read_history_with s ys r)) in
+  settled_begins =
+      let z = split (course_of s).read (s.made - 1) (inside s r) in
+      let b = before-before s.limit z.0 (history s) (subst (λ (X : List Laid). IsHistory s.limit X) z.1 (read_history s r)) in
       subst (λ (X : List Laid). Begins (before s.limit (history s)) (before s.limit X)) (sym z.1) b
 
-  all_fit_with : AllFit (course_of s).read
+  pub all_fit : AllFit (course_of s).read
   unfolding course_of
-  all_fit_with = course_fits s.limit (input_of s) (text_order s.text.chars r.holds.text)
+  all_fit = course_fits s.limit (input_of s) (text_order s.text.chars r.holds.text)
 
   -- the stream has ended only once all lexemes were read
   all_read : ended (history s) ≡ true → (course_of s).read ≡ history s
   unfolding history
-  all_read e = sym (oldest_all (course_of s).read (s.made - 1) (ended_all (next (input_of s) s.limit) s.limit (course_of s).read (s.made - 1) (is_run_with s ys r) (inside_with s ys r) e))
-
-pub settled_begins : (s : Scanner) → IsRunning s → Begins (before s.limit (history s)) (all_in s)
-settled_begins s r = settled_begins_with s (groups_in s) (runs_with s r)
-
-pub all_fit : (s : Scanner) → IsRunning s → AllFit (course_of s).read
-all_fit s r = all_fit_with s (groups_in s) (runs_with s r)
+  all_read e = sym (oldest_all (course_of s).read (s.made - 1) (ended_all (next (input_of s) s.limit) s.limit (course_of s).read (s.made - 1) (is_run s r) (inside s r) e))
 
 -- the token of the stream end is the last one
 pub end_is_told : (e : yaml_encoding_t) (H : List Laid) (n : ℕ) → ended H ≡ true → AllFit H → n < length (offline H) → list_any is_end (map (handed_out e) (drop n (offline H))) ≡ true
@@ -147,10 +142,6 @@ end_is_told e (i ∷ H) n q f l =
     last_true : (a b : Bool) → b ≡ true → (a || (b || false)) ≡ true
     last_true true b p = refl
     last_true false b p = rw p refl
-
-length_with : (s : Scanner) (ys : List group_t) → RunsWith s ys → length (history s) ≡ s.made - 1
-unfolding history
-length_with s ys r = oldest_length (course_of s).read (s.made - 1) (inside_with s ys r)
 
 pub open_same : (s t : Scanner) → Same s t → IsOpen s → IsOpen t
 open_same s t q o e =
@@ -169,14 +160,14 @@ module _ (m : Scanner) (zs : List group_t) (r : RunsWith m zs) (o : IsOpen m) (t
   whole = all_are_settled (history m) (m.made + 1) m zs r.holds a.awaited
 
   begins_all : Begins made_all (all_in m)
-  begins_all = subst (λ (z : List Token). Begins z (all_in m)) whole (settled_begins_with m zs r)
+  begins_all = subst (λ (z : List Token). Begins z (all_in m)) whole (settled_begins m r)
 
   few : m.taken ≤ length made_all
   few = let t = r.holds.taken in let l = ap (λ (z : List Token). length z) whole in omega arith
 
   tokens_are : tokens ≡ map (handed_out m.text.encoding) (drop m.taken made_all)
   tokens_are =
-      let q : IsQueue m.text.encoding 0 m.layout.queue.front zs (drop m.taken made_all) = subst (λ (n : ℕ). IsQueue m.text.encoding n m.layout.queue.front zs (drop m.taken made_all)) a.early r.holds.queue in
+      let q : IsQueue m.text.encoding 0 m.layout.queue.front zs (drop m.taken made_all) = subst (λ (n : ℕ). IsQueue m.text.encoding n m.layout.queue.front zs (drop m.taken made_all)) a.early r.holds.queue.tokens in
       a.tokens_are ∙ sym (queue_told m.text.encoding m.layout.queue.front zs (drop m.taken made_all) q)
 
   taken_are : take m.taken (all_in m) ≡ take m.taken made_all
@@ -210,9 +201,9 @@ module _ (m : Scanner) (zs : List group_t) (r : RunsWith m zs) (o : IsOpen m) (t
   not_ended : ended (history m) ≡ false
   not_ended = elim (cases_Bool (ended (history m))) [
     | inr e ↦ e
-    | inl e ↦ (let w = all_read m zs r e in
+    | inl e ↦ (let w = all_read m r e in
         let l : m.taken < length made_all = subst (λ (X : List Laid). m.taken < length (offline X)) w (o (ap ended w ∙ e)) in
-        let q = end_is_told m.text.encoding (history m) m.taken e (subst (λ (X : List Laid). AllFit X) w (all_fit_with m zs r)) l in
+        let q = end_is_told m.text.encoding (history m) m.taken e (subst (λ (X : List Laid). AllFit X) w (all_fit m r)) l in
         absurd (false≢true (sym a.no_end ∙ ap (λ (z : List yaml_token_t). list_any is_end z) tokens_are ∙ q)))
   ]
 
@@ -223,13 +214,13 @@ module _ (m : Scanner) (zs : List group_t) (r : RunsWith m zs) (o : IsOpen m) (t
   more_follow : ended (course_of m).read ≡ true → length made_all < length (offline (course_of m).read)
   unfolding offline history
   more_follow e =
-      let v = (all_is_handed_out m.limit (course_of m).read (read_history_with m zs r) e).1 in
+      let v = (all_is_handed_out m.limit (course_of m).read (read_history m r) e).1 in
       let b : Begins made_all (offline (course_of m).read) = subst (λ (z : List Token). Begins made_all z) v begins_all in
       elim (cases_lt (length made_all) (length (offline (course_of m).read))) [
         | inl l ↦ l
         | inr l ↦ (let q : offline (course_of m).read ≡ made_all = whole_front made_all (offline (course_of m).read) b l in
             let n : length (course_of m).read + 1 ≡ length (history m) + 1 = sym (count_groups (course_of m).read (course_of m).read) ∙ ap count q ∙ count_groups (history m) (history m) in
-            let h = length_with m zs r in
+            let h = history_length m r in
             absurd (lexemes_differ (sym (oldest_all (course_of m).read (m.made - 1) (omega arith))) e))
       ]
 
@@ -237,46 +228,37 @@ module _ (m : Scanner) (zs : List group_t) (r : RunsWith m zs) (o : IsOpen m) (t
   cut_settled took c = cut_of m took tokens given_begin c
 
   module _ (t : Scanner) (e : Empties m zs t tokens) where
+    text_then : t.text ≡ m.text
+    text_then = ap (λ (z : Scanner). z.text) e.same
+
+    refusal_then : t.refusal ≡ m.refusal
+    refusal_then = ap (λ (z : Scanner). z.refusal) e.same
+
+    pub limit_then : t.limit ≡ m.limit
+    limit_then = ap (λ (z : Scanner). z.limit) e.same
+
+    pub made_then : t.made ≡ m.made
+    made_then = ap (λ (z : Scanner). z.made) e.same
+
     course_then : course_of t ≡ course_of m
-    course_then = course_as m t e.text e.refusal e.limit
+    course_then = course_as m t text_then refusal_then limit_then
 
     pub history_then : history t ≡ history m
     unfolding history
-    history_then = rw (course_then, e.made) refl
+    history_then = rw (course_then, made_then) refl
 
     pub taken_then : t.taken ≡ length made_all
-    taken_then = e.taken ∙ tokens_long
+    taken_then = ap (λ (z : Scanner). z.taken) e.same ∙ tokens_long
 
-    held : Holds (history m) (t.made + 1) t
-    held = let g = r.holds in record {
-      text = rw e.text g.text;
-      is_history = subst (λ (k : ℕ). IsHistory k (history m)) (sym e.limit) g.is_history;
-      number = (let n = g.number in let k = e.made in omega arith);
-      fresh = rw e.limit g.fresh;
-      levels = rw e.levels g.levels;
-      columns = rw e.text g.columns;
-      outer = rw (e.slots, e.limit) g.outer;
-      empty = rw e.slots g.empty;
-      top = rw (e.slots, e.limit) g.top;
-      awaited = rw e.slots g.awaited;
-      allowed = rw e.allowed g.allowed;
-      queue = rw e.groups (drop_all t.taken made_all (let n = taken_then in omega arith));
-      count = (let n = g.count in let k = e.done in let l = ap (λ (z : List group_t). length z) e.groups in omega arith);
+    queue_then : HoldsQueue m.text.encoding (m.taken + length tokens) (history m) t.layout.queue (groups_in t)
+    queue_then = record {
+      tokens = rw e.groups (drop_all (m.taken + length tokens) made_all (let n = tokens_long in omega arith));
+      count = (let n = r.holds.queue.count in let k = e.done in let l = ap (λ (z : List group_t). length z) e.groups in omega arith);
       early = λ z. e.early;
-      reach = rw e.reach g.reach;
-      taken = rw e.limit (let n = taken_then in let l = ap (λ (z : List Token). length z) whole in omega arith);
-      place = rw (e.text, e.reach) g.place;
     }
 
     runs_then : IsRunning t
-    runs_then = record {
-      small = rw e.text r.small;
-      near = rw (e.text, e.refusal, e.near) r.near;
-      holds = subst (λ (Z : List Laid). Holds Z (t.made + 1) t) (sym history_then) held;
-      begun = (let n = r.begun in let k = e.made in omega arith);
-      start = rw course_then r.start;
-      within = (let n = r.within in let k = e.made in let c = ap (λ (x : Course). length x.read) course_then in omega arith);
-    }
+    runs_then = subst IsRunning (sym e.same) (runs_queued m r t.layout.queue (m.taken + length tokens) queue_then (let n = tokens_long in let l = ap (λ (z : List Token). length z) whole in omega arith))
 
     open_after : IsOpen t
     open_after q =
@@ -288,7 +270,7 @@ module _ (m : Scanner) (zs : List group_t) (r : RunsWith m zs) (o : IsOpen m) (t
 
     given_then : told_taken t ≡ told_taken m ++ tokens
     given_then =
-        taken_is m t e.text e.refusal e.limit (length made_all) taken_then
+        taken_is m t text_then refusal_then limit_then (length made_all) taken_then
         ∙ ap (λ (z : List Token). map (handed_out m.text.encoding) (take (length made_all) z)) begins_all.is
         ∙ ap (λ (z : List Token). map (handed_out m.text.encoding) z) (take-append-le (length made_all) made_all begins_all.rest (omega arith) ∙ take_all (length made_all) made_all (omega arith))
         ∙ sym given_are
@@ -298,10 +280,10 @@ module _ (m : Scanner) (zs : List group_t) (r : RunsWith m zs) (o : IsOpen m) (t
     emptied s q = record {
       runs = runs_then;
       still_open = open_after;
-      text = e.text ∙ q.text;
-      refusal = e.refusal ∙ q.refusal;
-      limit = e.limit ∙ q.limit;
-      grows = (let k = e.taken in let n = q.taken in omega arith);
+      text = text_then ∙ q.text;
+      refusal = refusal_then ∙ q.refusal;
+      limit = limit_then ∙ q.limit;
+      grows = (let k = ap (λ (z : Scanner). z.taken) e.same in let n = q.taken in omega arith);
       given = given_then ∙ ap (λ (z : List yaml_token_t). z ++ tokens) (taken_is s m q.text q.refusal q.limit s.taken q.taken);
     }
 
@@ -323,7 +305,7 @@ module _ (s : Scanner) (r : IsRunning s) (o : IsOpen s) (l : length (before s.li
 
     queued_then : zs ≡ groups_in m → HasGiven s m []
     queued_then e = let p = laid_then in let q = p.2 in record {
-      runs = runs_on m zs e p.0;
+      runs = subst (λ (ys : List group_t). RunsWith m ys) e p.0;
       still_open = open_then;
       text = q.text;
       refusal = q.refusal;
@@ -337,7 +319,7 @@ module _ (s : Scanner) (r : IsRunning s) (o : IsOpen s) (l : length (before s.li
       subst (λ (u : Scanner). HasGiven s u tokens) (sym w.2) (subst (λ (z : List yaml_token_t). HasGiven s m z) (sym w.1) (queued_then w.3)),
       rw w.2 p.1,
     )
-    handed sparing t tokens (inr w) = let p = laid_then in let e = w.1 in let z = e.made in let n = p.1 in (
+    handed sparing t tokens (inr w) = let p = laid_then in let e = w.1 in let z = ap (λ (z : Scanner). z.made) e.same in let n = p.1 in (
       emptied m zs p.0 open_then tokens e.all t e s p.2,
       omega arith,
     )

@@ -1,6 +1,6 @@
 -- No token of the group at the head of the queue waits, if it is not that of the candidate which is awaited, and taking
 -- the group leaves the rest.
-use Rattle.std.proofs.Common.{◌≡◌, ℕ, ◌+◌, ◌≤◌, ◌<◌, ◌^◌, true, false, List, [], ◌∷◌, ◌++◌, map, take, drop, length, length-append, length-drop, append_assoc, Some, Option, refl, ap, sym, ◌∙◌, subst, arith, inl, inr}
+use Rattle.std.proofs.Common.{◌≡◌, ℕ, ◌+◌, ◌≤◌, ◌<◌, ◌^◌, true, false, List, [], ◌∷◌, ◌++◌, map, take, drop, length, length-append, length-drop, append_assoc, Some, refl, ap, sym, ◌∙◌, subst, arith, inl, inr}
 use Rattle.std.specs.Prelude.{◌≢◌, ◌⊎◌}
 use Rattle.std.specs.List.{list_any}
 use Rattle.std.proofs.lemmas.Bool.{cases_eq, cases_lt, false≢true}
@@ -14,25 +14,26 @@ use Rattle.yaml_scan.specs.Groups.{Token, handed_out, offline}
 use Rattle.yaml_scan.specs.Groups.Token.{OfLexeme}
 use Rattle.yaml_scan.specs.Keys.{candidate}
 use Rattle.yaml_scan.specs.Laid.{Laid}
-use Rattle.yaml_scan.specs.Order.{IsHistory}
 use Rattle.yaml_scan.specs.Settled.{before, up_to}
 use Rattle.yaml_scan.specs.Token.{yaml_token_t}
 use Rattle.yaml_scan.specs.Words.{HasWords, HaveWords}
 use Rattle.yaml_scan.specs.declared.groups.group_t.{group_t}
+use Rattle.yaml_scan.specs.declared.groups.queue_t.{queue_t}
 use Rattle.yaml_scan.specs.inside.Scanner.{Scanner}
 use Rattle.yaml_scan.specs.inside.Given.{all_in, told_all, told_taken}
-use Rattle.yaml_scan.specs.inside.Handed.{group_tokens, is_end, told_leads}
+use Rattle.yaml_scan.specs.inside.Handed.{group_tokens, is_end, set_queue, told_leads}
+use Rattle.yaml_scan.specs.inside.Holding.{HoldsQueue}
 use Rattle.yaml_scan.specs.inside.Queue.{IsQueue, leads}
-use Rattle.yaml_scan.specs.inside.Scanning.{Holds, IsOpen, IsRunning, course_of, groups_in, history}
+use Rattle.yaml_scan.specs.inside.Scanning.{IsOpen, IsRunning, course_of, groups_in, history}
 use Rattle.yaml_scan.specs.inside.Sent.{Drains, IsReadyGroup}
-use Rattle.yaml_scan.specs.inside.Slots.{Held, lowest, outer_to, step_of}
+use Rattle.yaml_scan.specs.inside.Slots.{Held, step_of}
 use Rattle.yaml_scan.proofs.RunningQueue.CandidateGroup.{count, leads_made, offline_split, split_made, stands, taken_count}
 use Rattle.yaml_scan.proofs.RunningQueue.GroupTokens.{group_no_end, told_count}
 use Rattle.yaml_scan.proofs.RunningQueue.HeadIsNext.{here, lowest_open, none_open}
-use Rattle.yaml_scan.proofs.RunningQueue.SlotOrder.{IsLowest, IsNone, lowest_is, outer_more}
+use Rattle.yaml_scan.proofs.RunningQueue.SlotOrder.{IsLowest, IsNone, awaited_is, lowest_is}
 use Rattle.yaml_scan.proofs.RunningQueue.WholeQueue.{leads_told, none_early}
 use Rattle.yaml_scan.proofs.RunningCalls.GivenTokens.{all_fit, course_as, end_is_told, settled_begins, taken_is}
-use Rattle.yaml_scan.proofs.RunningCalls.NextOfInput.{few_settled, read_history}
+use Rattle.yaml_scan.proofs.RunningCalls.NextOfInput.{few_settled, read_history, runs_queued}
 use Rattle.yaml_scan.proofs.RunningCalls.ScansToTheEnd.{begins_take}
 use Rattle.yaml_scan.proofs.RunningCalls.SeveralScans.{take-more}
 use Rattle.yaml_scan.proofs.TokenList.OneLexemeMore.{all_is_handed_out}
@@ -78,7 +79,7 @@ module _ (s : Scanner) (r : IsRunning s) (y : group_t) (g : IsReadyGroup s y) wh
 
   queue_is : IsQueue e 0 s.layout.queue.front (y ∷ g.others) (drop s.taken (offline H))
   queue_is = subst (λ (ys : List group_t). IsQueue e 0 s.layout.queue.front ys (drop s.taken (offline H))) g.head
-      (subst (λ (k : ℕ). IsQueue e k s.layout.queue.front (groups_in s) (drop s.taken (offline H))) g.early r.holds.queue)
+      (subst (λ (k : ℕ). IsQueue e k s.layout.queue.front (groups_in s) (drop s.taken (offline H))) g.early r.holds.queue.tokens)
 
   abbrev first : Token
   first = queue_is.0
@@ -108,7 +109,7 @@ module _ (s : Scanner) (r : IsRunning s) (y : group_t) (g : IsReadyGroup s y) wh
       let q : leads y ++ first ∷ rest ≡ p.whole ++ (p.ends ++ OfLexeme c.lexeme ∷ o.0) =
       sym parts ∙ ap (λ (z : List Token). drop s.taken z) o.1 ∙ drop-append-le s.taken (up_to H (Some c)) (OfLexeme c.lexeme ∷ o.0) l
       ∙ ap (λ (z : List Token). z ++ OfLexeme c.lexeme ∷ o.0) p.front_is ∙ append_assoc p.whole p.ends (OfLexeme c.lexeme ∷ o.0) in
-      let u = taken_count H s.taken e s.layout.queue.early s.layout.queue.front (groups_in s) r.holds.queue s.layout.queue.done r.holds.count in
+      let u = taken_count H s.taken e s.layout.queue.early s.layout.queue.front (groups_in s) r.holds.queue.tokens s.layout.queue.done r.holds.queue.count in
       let w = p.place in
       let f = p.far in
       let m = long in
@@ -120,9 +121,6 @@ module _ (s : Scanner) (r : IsRunning s) (y : group_t) (g : IsReadyGroup s y) wh
             omega arith)
       ]
 
-  awaited_is : s.slots.awaited ≡ step_of (lowest (outer_to s.limit H (depth H + 1)))
-  awaited_is = r.holds.awaited ∙ ap (λ (hs : List (Option Held)). step_of (lowest hs)) (outer_more s.limit H s.slots.outer.items s.slots.top r.holds.outer r.holds.top)
-
   pub group_settled : s.taken + n ≤ length (before s.limit H)
   group_settled = elim (cases_lt (length (before s.limit H)) (s.taken + n)) [
     | inr l ↦ l
@@ -133,7 +131,7 @@ module _ (s : Scanner) (r : IsRunning s) (y : group_t) (g : IsReadyGroup s y) wh
       go l m (inr o) = let x = none_open s.limit H r.holds.is_history (length (before s.limit H)) (omega arith) o m in omega arith
       go l m (inl o) =
           let c = here s.limit H r.holds.is_history (length (before s.limit H)) (omega arith) o in
-          let a : s.slots.awaited ≡ c.laid.number + 2 = awaited_is ∙ ap step_of o.told ∙ ap (λ (z : Held). z.step) c.told in
+          let a : s.slots.awaited ≡ c.laid.number + 2 = awaited_is s.limit H s.slots s.allowed r.holds.keys ∙ ap step_of o.told ∙ ap (λ (z : Held). z.step) c.told in
           let x = lowest_open s.limit H r.holds.is_history (length (before s.limit H)) (omega arith) o
           (λ q. let w = candidate_after o.at c.laid c.is (λ z. g.awaited (a ∙ z)) (let t = r.holds.taken in omega arith) in absurd (omega arith)) m in
           omega arith
@@ -203,47 +201,25 @@ module _ (s : Scanner) (r : IsRunning s) (y : group_t) (g : IsReadyGroup s y) wh
       ∙ ap (λ (z : List Token). drop n z) (parts ∙ sym (append_assoc (leads y) (first ∷ []) rest))
       ∙ drop_at (leads y ++ first ∷ []) rest n (omega arith)
 
-  module _ (u : Scanner) (T : u.text ≡ s.text) (J : u.refusal ≡ s.refusal) (N : u.near ≡ s.near) (L : u.limit ≡ s.limit) (V : u.layout.levels ≡ s.layout.levels) (O : u.slots ≡ s.slots) (A : u.allowed ≡ s.allowed) (R : u.reach ≡ s.reach) (M : u.made ≡ s.made)
-      (E : u.layout.queue.early ≡ s.layout.queue.early) (F : u.layout.queue.front ≡ s.layout.queue.front) (D : u.layout.queue.done ≡ s.layout.queue.done + 1) (Y : groups_in u ≡ g.others) (K : u.taken ≡ s.taken + n) where
+  -- the group is taken
+  module _ (q : queue_t) (E : q.early ≡ s.layout.queue.early) (F : q.front ≡ s.layout.queue.front) (D : q.done ≡ s.layout.queue.done + 1) (Y : q.groups.items ≡ g.others) (k : ℕ) (K : k ≡ n) where
+    abbrev u : Scanner
+    u = set_queue s q (s.taken + k)
+
     course_u : course_of u ≡ course_of s
-    course_u = course_as s u T J L
+    course_u = course_as s u refl refl refl
 
-    history_u : history u ≡ history s
-    unfolding history
-    history_u = rw (course_u, M) refl
+    taken_u : s.taken + k ≡ s.taken + n
+    taken_u = ap (λ (m : ℕ). s.taken + m) K
 
-    early_u : u.layout.queue.early ≡ 0
+    early_u : q.early ≡ 0
     early_u = E ∙ g.early
 
-    held : Holds H (u.made + 1) u
-    held = let q = r.holds in record {
-      text = rw T q.text;
-      is_history = subst (λ (k : ℕ). IsHistory k H) (sym L) q.is_history;
-      number = (let k = q.number in omega (arith, M));
-      fresh = rw L q.fresh;
-      levels = rw V q.levels;
-      columns = rw T q.columns;
-      outer = rw (O, L) q.outer;
-      empty = rw O q.empty;
-      top = rw (O, L) q.top;
-      awaited = rw O q.awaited;
-      allowed = rw A q.allowed;
-      queue = rw (T, early_u, F, Y, K, rest_is) queue_is.5;
-      count = (let k = q.count in let a = ap (λ (z : List group_t). length z) g.head in let b = ap (λ (z : List group_t). length z) Y in omega arith);
+    queue_held : HoldsQueue e (s.taken + k) H q q.groups.items
+    queue_held = record {
+      tokens = rw (early_u, F, Y, K, rest_is) queue_is.5;
+      count = (let c = r.holds.queue.count in let a = ap (λ (z : List group_t). length z) g.head in let b = ap (λ (z : List group_t). length z) Y in omega arith);
       early = λ z. early_u;
-      reach = rw R q.reach;
-      taken = rw (K, L) group_settled;
-      place = rw (T, R) q.place;
-    }
-
-    runs_u : IsRunning u
-    runs_u = record {
-      small = rw T r.small;
-      near = rw (T, J, N) r.near;
-      holds = subst (λ (Z : List Laid). Holds Z (u.made + 1) u) (sym history_u) held;
-      begun = rw M r.begun;
-      start = rw course_u r.start;
-      within = (let w = r.within in let c = ap (λ (x : Course). length x.read) course_u in omega (arith, M));
     }
 
     open_u : IsOpen s → IsOpen u
@@ -256,15 +232,15 @@ module _ (s : Scanner) (r : IsRunning s) (y : group_t) (g : IsReadyGroup s y) wh
     pub group_drained : IsOpen s → Drains s u (group_tokens y)
     group_drained o = record {
       given = record {
-        runs = runs_u;
+        runs = runs_queued s r q (s.taken + k) queue_held (rw K group_settled);
         still_open = open_u o;
-        text = T;
-        refusal = J;
-        limit = L;
-        grows = omega (arith, K);
-        given = taken_is s u T J L (s.taken + n) K ∙ told_then;
+        text = refl;
+        refusal = refl;
+        limit = refl;
+        grows = omega arith;
+        given = taken_is s u refl refl refl (s.taken + n) taken_u ∙ told_then;
       };
-      taken = K;
-      made = M;
+      taken = taken_u;
+      made = refl;
       no_end = group_no_end y g.no_end;
     }

@@ -44,7 +44,6 @@ use Rattle.yaml_scan.proofs.RunningCalls.ScansToTheEnd.{scans_fault}
 use Rattle.yaml_scan.proofs.RunningCalls.TakingHead.{groups_some}
 use Rattle.yaml_scan.proofs.RunningCalls.ToNextToken.{ready_new, started_before, started_new}
 use Rattle.yaml_scan.proofs.RunningQueue.QueueGroups.{IsFirst, lead_first, token_first}
-use Rattle.yaml_scan.proofs.RunningStep.FirstStep.{new_beside}
 
 -- THE FIRST STEP
 module _ (i : Inside) (v : Sound i) (o : i.session.over ≡ false) where
@@ -55,7 +54,7 @@ module _ (i : Inside) (v : Sound i) (o : i.session.over ≡ false) where
     not_peeked true e = absurd (let k = (v.peeked e).1 in let b = k.stands.runs.begun in omega arith)
 
     pub is_new : (state : state_t) → state ≡ i.state → (T : Text) → IsNew (scanner_of T state)
-    is_new state e T = subst (λ (z : state_t). IsNew (scanner_of T z)) (sym e) (new_beside i.state i.text T (ready_new i.setting i.input.now (scanner_in i) (v.ready o) (omega arith)))
+    is_new state e T = subst (λ (z : state_t). IsNew (scanner_of T z)) (sym e) (ready_new i.setting i.input.now (scanner_in i) (v.ready o) (omega arith))
 
     pub begins_now : (state : state_t) → state ≡ i.state → (text : Text) (state' : state_t) → ((T : Text) → Begins i.setting i.input.now (scanner_of T state) (scanner_of text state')) → HasBegun i text state'
     begins_now state e text state' b = record {
@@ -170,10 +169,10 @@ module _ (i : Inside) (v : Sound i) (e : i.session.peeked ≡ true) where
   first_is x f = head_shown i.setting i.input.now s (v.peeked e).1 x f i.session.peeked i.session.over (fault_in i.session.failed i.state.fault) e (parser_of i) refl
 
   pub lead_shown : 0 < length (pending s.layout.queue.early s.layout.queue.front s.layout.queue.groups.items) → token_of i.lead ≡ token_shown (parser_of i)
-  lead_shown l = let k = (v.peeked e).1 in first_is (token_of i.lead) (lead_first s.text.encoding s.layout.queue (drop s.taken (offline (history s))) (token_of i.lead) k.stands.runs.holds.queue (v.lead e) l)
+  lead_shown l = let k = (v.peeked e).1 in first_is (token_of i.lead) (lead_first s.text.encoding s.layout.queue (drop s.taken (offline (history s))) (token_of i.lead) k.stands.runs.holds.queue.tokens (v.lead e) l)
 
   pub group_shown : (y : group_t) → y ≡ get_or s.layout.queue.groups.items 0 y → length (pending s.layout.queue.early s.layout.queue.front s.layout.queue.groups.items) ≤ 0 → token_of y.token ≡ token_shown (parser_of i)
-  group_shown y d l = let k = (v.peeked e).1 in first_is (token_of y.token) (token_first s.text.encoding s.layout.queue (drop s.taken (offline (history s))) y k.stands.runs.holds.queue shown_some d l)
+  group_shown y d l = let k = (v.peeked e).1 in first_is (token_of y.token) (token_first s.text.encoding s.layout.queue (drop s.taken (offline (history s))) y k.stands.runs.holds.queue.tokens shown_some d l)
 
 pub over_is : (p : Parser) (k : yaml_kept_parser_t) → IsKept p k → k.session.over ≡ p.session.over
 over_is p k w = ap (λ (z : yaml_kept_parser_t). z.session.over) w.kept ∙ ap (λ (z : Parser). z.session.over) w.seen_as

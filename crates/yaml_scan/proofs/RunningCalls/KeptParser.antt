@@ -13,7 +13,6 @@ use Rattle.yaml_scan.specs.Sessions.{session_queued}
 use Rattle.yaml_scan.specs.inside.Queue.{IsLead}
 use Rattle.yaml_scan.specs.inside.Ready.{IsIn, IsReady, IsShown, Sound, parser_of, course_in}
 use Rattle.yaml_scan.specs.inside.Scanning.{IsOpen}
-use Rattle.yaml_scan.proofs.RunningStep.FirstStep.{new_beside}
 
 -- P with another text, and with the input and the empty token of Q
 abbrev pub gone : Inside → Text → Inside → Inside
@@ -23,7 +22,7 @@ gone P x Q = record { input = Q.input; setting = P.setting; text = x; state = P.
 module _ (P : Inside) (i : Sound P) (x : Text) (same : P.session.over ≡ false → 0 < P.state.made → x ≡ P.text) (Q : Inside) (e : Q.input.now ≡ P.input.now) (f : token_of Q.empty ≡ empty) where
   goes_ready : P.session.over ≡ false → IsReady P.setting Q.input.now (scanner_of x P.state)
   goes_ready o = elim (i.ready o) [
-    | inl n ↦ inl (new_beside P.state P.text x n)
+    | inl n ↦ inl n
     | inr w ↦ inr (
       subst (λ (z : List ℕ). IsIn P.setting z (scanner_of x P.state)) (sym e) (subst (λ (t : Text). IsIn P.setting P.input.now (scanner_of t P.state)) (sym (same o w.0.runs.begun)) w.0),
       subst (λ (t : Text). IsOpen (scanner_of t P.state)) (sym (same o w.0.runs.begun)) w.1,

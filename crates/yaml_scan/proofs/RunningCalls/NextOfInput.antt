@@ -19,11 +19,16 @@ use Rattle.yaml_scan.specs.Step.Outcome.{Reads, Faults}
 use Rattle.yaml_scan.specs.Cut.{IsRun, EndsWith}
 use Rattle.yaml_scan.specs.Near.{unless_near, is_near, place_of, starts_near}
 use Rattle.yaml_scan.specs.Settled.{before}
-use Rattle.yaml_scan.specs.inside.Scanning.{HoldsWith, AdvancesWith, AdvancesTwice, Ends, Makes, Needs, Offends, IsRunning, Steps, StepsOn, IsLast, groups_in, Same, IsNearFrom, IsNearOf, IsStep, Halts, counted, history}
+use Rattle.yaml_scan.specs.inside.Holding.{HoldsQueue}
+use Rattle.yaml_scan.specs.inside.Handed.{set_queue}
+use Rattle.yaml_scan.specs.declared.groups.queue_t.{queue_t}
+use Rattle.yaml_scan.specs.inside.Scanning.{HoldsWith, AdvancesWith, AdvancesTwice, Ends, Makes, Needs, Offends, IsRunning, RunsWith, StepsOn, StepsWith, IsLast, groups_in, Same, IsNearFrom, IsNearOf, IsStep, Halts, counted, history}
 use Rattle.yaml_scan.specs.inside.Scanning.{course_of, input_of}
 use Rattle.yaml_scan.proofs.Course.LongestCut.{IsHistory-from_run, run_short}
 use Rattle.yaml_scan.proofs.Course.CourseSteps.{next_orderly, steps_are}
 use Rattle.yaml_scan.proofs.Course.NextStep.{oldest-next, oldest-fault, oldest_all}
+use Rattle.yaml_scan.proofs.RunningStep.HeldBeside.{counted_holds, holds_as}
+use Rattle.yaml_scan.proofs.RunningStep.StepMoves.{same_trans}
 use Rattle.yaml_scan.proofs.TokenList.QueueBound.{length-begins}
 use Rattle.yaml_scan.proofs.TokenList.SettledStays.{before-offline}
 use Rattle.yaml_scan.proofs.TokenList.GroupSizes.{four_tokens_a_step}
@@ -83,36 +88,28 @@ pub history_same : (s t : Scanner) → Same s t → t.made ≡ s.made → histor
 unfolding history
 history_same s t e m = rw (course_same s t e, m) refl
 
-pub same_trans : (s t u : Scanner) → Same s t → Same t u → Same s u
-same_trans s t u a b = record { text = b.text ∙ a.text; refusal = b.refusal ∙ a.refusal; near = b.near ∙ a.near; limit = b.limit ∙ a.limit; taken = b.taken ∙ a.taken; done = b.done ∙ a.done }
+-- ANOTHER QUEUE
+-- one with another queue, of which n tokens were taken
+course_queue : (s : Scanner) (q : queue_t) (n : ℕ) → course_of (set_queue s q n) ≡ course_of s
+unfolding course_of
+course_queue s q n = refl
 
--- WITH OTHER GROUPS IN THE QUEUE
--- a scanner that runs if it has these groups in its queue
-pub record RunsWith (s : Scanner) (ys : List group_t) : Type 0 where
-  pub small : length s.text.chars < 2 ^ 63
-  pub near : IsNearOf (refusal_seen s.refusal) s.text.chars s.near
-  pub holds : HoldsWith (history s) (s.made + 1) s ys
-  pub begun : 0 < s.made
-  pub start : (course_of s).begun ≡ true
-  pub within : s.made ≤ length (course_of s).read + 1
+history_queue : (s : Scanner) (q : queue_t) (n : ℕ) → history (set_queue s q n) ≡ history s
+unfolding history
+history_queue s q n = ap (λ (c : Course). oldest (s.made - 1) c.read) (course_queue s q n)
 
-pub runs_with : (s : Scanner) → IsRunning s → RunsWith s (groups_in s)
-runs_with s r = record { small = r.small; near = r.near; holds = r.holds; begun = r.begun; start = r.start; within = r.within }
-
-pub runs_on : (s : Scanner) (ys : List group_t) → ys ≡ groups_in s → RunsWith s ys → IsRunning s
-runs_on s ys e r = record { small = r.small; near = r.near; holds = subst (λ (z : List group_t). HoldsWith (history s) (s.made + 1) s z) e r.holds; begun = r.begun; start = r.start; within = r.within }
-
--- one step more
-pub record StepsWith (s t : Scanner) (zs : List group_t) : Type 0 where
-  pub runs : RunsWith t zs
-  pub made : t.made ≡ s.made + 1
-  pub same : Same s t
-
-steps_of : (s t : Scanner) → StepsWith s t (groups_in t) → Steps s t
-steps_of s t k = record { runs = runs_on t (groups_in t) refl k.runs; made = k.made; same = k.same }
+pub runs_queued : (s : Scanner) {ys : List group_t} → RunsWith s ys → (q : queue_t) (n : ℕ) → HoldsQueue s.text.encoding n (history s) q q.groups.items → n ≤ length (before s.limit (history s)) → IsRunning (set_queue s q n)
+runs_queued s r q n k l = record {
+  small = r.small;
+  near = r.near;
+  holds = subst (λ (Z : List Laid). HoldsWith Z (s.made + 1) (set_queue s q n) q.groups.items) (sym (history_queue s q n)) (holds_as (history s) (s.made + 1) s (set_queue s q n) r.holds refl refl refl refl refl refl k l);
+  begun = r.begun;
+  start = rw (course_queue s q n) r.start;
+  within = rw (course_queue s q n) r.within;
+}
 
 -- THE COURSE
-module _ (s : Scanner) (ys : List group_t) (r : RunsWith s ys) where
+module _ (s : Scanner) {ys : List group_t} (r : RunsWith s ys) where
   abbrev cut_of : Cut
   cut_of = cut_from (next (input_of s) s.limit) ((source_of s.text.chars).size + 1) s.limit []
 
@@ -131,26 +128,26 @@ module _ (s : Scanner) (ys : List group_t) (r : RunsWith s ys) where
   fault_is : (course_of s).fault ≡ option_map (λ o. o.fault) cut_of.fault
   fault_is = ap (λ (c : Course). c.fault) course_is
 
-  pub is_run_with : IsRun (next (input_of s) s.limit) s.limit (course_of s).read
-  is_run_with = rw read_is (steps_are s.limit (input_of s) (text_order s.text.chars r.holds.text)).0
+  pub is_run : IsRun (next (input_of s) s.limit) s.limit (course_of s).read
+  is_run = rw read_is (steps_are s.limit (input_of s) (text_order s.text.chars r.holds.text)).0
 
   ends_with : EndsWith (next (input_of s) s.limit) (course_of s).read cut_of.fault
   ends_with = rw read_is (steps_are s.limit (input_of s) (text_order s.text.chars r.holds.text)).1
 
-  pub read_history_with : IsHistory s.limit (course_of s).read
-  read_history_with = IsHistory-from_run (next (input_of s) s.limit) s.limit (source_of s.text.chars).size (next_orderly s.limit (input_of s) (text_order s.text.chars r.holds.text)) (course_of s).read is_run_with
+  pub read_history : IsHistory s.limit (course_of s).read
+  read_history = IsHistory-from_run (next (input_of s) s.limit) s.limit (source_of s.text.chars).size (next_orderly s.limit (input_of s) (text_order s.text.chars r.holds.text)) (course_of s).read is_run
 
-  pub read_short_with : length (course_of s).read ≤ length s.text.chars + 1
-  read_short_with = let a = run_short (next (input_of s) s.limit) s.limit (source_of s.text.chars).size (next_orderly s.limit (input_of s) (text_order s.text.chars r.holds.text)) (course_of s).read is_run_with in let z = size_of s.text.chars in omega arith
+  pub read_short : length (course_of s).read ≤ length s.text.chars + 1
+  read_short = let a = run_short (next (input_of s) s.limit) s.limit (source_of s.text.chars).size (next_orderly s.limit (input_of s) (text_order s.text.chars r.holds.text)) (course_of s).read is_run in let z = size_of s.text.chars in omega arith
 
-  pub inside_with : s.made - 1 ≤ length (course_of s).read
-  inside_with = let a = r.within in let b = r.begun in omega arith
+  pub inside : s.made - 1 ≤ length (course_of s).read
+  inside = let a = r.within in let b = r.begun in omega arith
 
   module _ (e : ended (history s) ≡ false) where
     not_all : (x : Lexeme) → next (input_of s) s.limit (history s) ≡ Reads x → s.made - 1 < length (course_of s).read
     unfolding history
     not_all x q = elim (cases_eq (s.made - 1) (length (course_of s).read)) [
-      | inr z ↦ (let l = inside_with in omega arith)
+      | inr z ↦ (let l = inside in omega arith)
       | inl z ↦ (let a : oldest (s.made - 1) (course_of s).read ≡ (course_of s).read = oldest_all _ _ z in
           absurd (go cut_of.fault ends_with (subst (λ (X : List Laid). ended X ≡ false) a e) (subst (λ (X : List Laid). next (input_of s) s.limit X ≡ Reads x) a q)))
     ]
@@ -166,13 +163,13 @@ module _ (s : Scanner) (ys : List group_t) (r : RunsWith s ys) where
     unfolding history
     next_is x q = let l = not_all x q in let b = r.begun in
         let n : s.made ≡ (s.made - 1) + 1 = omega arith in
-        ap (λ (k : ℕ). oldest k (course_of s).read) n ∙ oldest-next (next (input_of s) s.limit) s.limit (course_of s).read (s.made - 1) x is_run_with l q
+        ap (λ (k : ℕ). oldest k (course_of s).read) n ∙ oldest-next (next (input_of s) s.limit) s.limit (course_of s).read (s.made - 1) x is_run l q
 
     -- the fault after the course
     last_is : (o : Offence) → next (input_of s) s.limit (history s) ≡ Faults o → IsLast s o.fault
     unfolding history
     last_is o q =
-        let a = oldest-fault (next (input_of s) s.limit) s.limit (course_of s).read (s.made - 1) o cut_of.fault is_run_with ends_with inside_with e q in
+        let a = oldest-fault (next (input_of s) s.limit) s.limit (course_of s).read (s.made - 1) o cut_of.fault is_run ends_with inside e q in
         let b = r.begun in let z = a.0 in
         record { made = omega arith; fault = fault_is ∙ ap (λ (p : Option Offence). option_map (λ o. o.fault) p) a.1 }
 
@@ -185,86 +182,48 @@ module _ (s : Scanner) (ys : List group_t) (r : RunsWith s ys) where
       unfolding next
       next_step = ap (λ (o : Outcome). unless_near (source_of s.text.chars).size (refusal_seen s.refusal) o) a.step
 
-      module _ (u : Scanner) (H : u.text ≡ t.text) (J : u.refusal ≡ t.refusal) (K : u.near ≡ t.near) (L : u.limit ≡ t.limit) (O : u.slots ≡ t.slots) (A : u.allowed ≡ t.allowed) (Q : u.layout ≡ t.layout) (R : u.reach ≡ t.reach) (T : u.taken ≡ t.taken) (M : u.made ≡ t.made + 1)
-          (index : ℕ) (I : index ≡ t.reach.index) (F : index < s.near) where
+      module _ (far : t.reach.index < s.near) where
         reads : next (input_of s) s.limit (history s) ≡ X
-        reads = next_step ∙ not_near s.text.chars s.near X a.within index (I ∙ a.index) (refusal_seen s.refusal) r.near F
+        reads = next_step ∙ not_near s.text.chars s.near X a.within t.reach.index a.index (refusal_seen s.refusal) r.near far
 
-        u_same : Same s u
-        u_same = let e = a.same in record { text = H ∙ e.text; refusal = J ∙ e.refusal; near = K ∙ e.near; limit = L ∙ e.limit; taken = T ∙ e.taken; done = rw Q e.done }
+        t_same : Same s (counted t)
+        t_same = let e = a.same in record { text = e.text; refusal = e.refusal; near = e.near; limit = e.limit; taken = e.taken; done = e.done }
 
-        u_made : u.made ≡ s.made + 1
-        u_made = let m = a.made in omega arith
+        t_made : t.made + 1 ≡ s.made + 1
+        t_made = let m = a.made in omega arith
 
-        pub u_history : history u ≡ laid s.limit (history s) a.lexeme ∷ history s
+        pub t_history : history (counted t) ≡ laid s.limit (history s) a.lexeme ∷ history s
         unfolding history
-        u_history = let m : u.made - 1 ≡ s.made = (let k = u_made in omega arith) in rw (course_same s u u_same, m) (next_is a.lexeme reads)
+        t_history = let m : t.made + 1 - 1 ≡ s.made = (let k = t_made in omega arith) in rw (course_same s (counted t) t_same, m) (next_is a.lexeme reads)
 
-        u_holds : HoldsWith (laid s.limit (history s) a.lexeme ∷ history s) (u.made + 1) u zs
-        u_holds = let h = a.holds in record {
-          text = rw H h.text;
-          is_history = subst (λ (k : ℕ). IsHistory k (laid s.limit (history s) a.lexeme ∷ history s)) (sym L) h.is_history;
-          number = (let k = u_made in let n = h.number in omega arith);
-          fresh = rw L h.fresh;
-          levels = rw Q h.levels;
-          columns = rw H h.columns;
-          outer = rw (O, L) h.outer;
-          empty = rw O h.empty;
-          top = rw (O, L) h.top;
-          awaited = rw O h.awaited;
-          allowed = rw A h.allowed;
-          queue = rw (H, Q, T) h.queue;
-          count = rw Q h.count;
-          early = rw Q h.early;
-          reach = rw R h.reach;
-          taken = rw (T, L) h.taken;
-          place = rw (H, R) h.place;
+        t_runs : RunsWith (counted t) zs
+        t_runs = let e = t_same in record {
+          small = rw e.text r.small;
+          near = rw (e.text, e.refusal, e.near) r.near;
+          holds = subst (λ (Z : List Laid). HoldsWith Z (t.made + 1 + 1) (counted t) zs) (sym t_history)
+              (subst (λ (k : ℕ). HoldsWith (laid s.limit (history s) a.lexeme ∷ history s) (k + 1) (counted t) zs) (sym t_made) (counted_holds (laid s.limit (history s) a.lexeme ∷ history s) (s.made + 1 + 1) t zs a.holds));
+          begun = omega arith;
+          start = rw (course_same s (counted t) e) r.start;
+          within = (let k = t_made in let l = not_all a.lexeme reads in rw (course_same s (counted t) e) (omega arith));
         }
 
-        u_runs : RunsWith u zs
-        u_runs = record {
-          small = (let e = u_same in rw (e.text) r.small);
-          near = (let e = u_same in rw (e.text, e.refusal, e.near) r.near);
-          holds = subst (λ (Z : List Laid). HoldsWith Z (u.made + 1) u zs) (sym u_history) u_holds;
-          begun = (let k = u_made in omega arith);
-          start = rw (course_same s u u_same) r.start;
-          within = (let k = u_made in let l = not_all a.lexeme reads in rw (course_same s u u_same) (omega arith));
-        }
-
-        pub stepped_with : StepsWith s u zs
-        stepped_with = record { runs = u_runs; made = u_made; same = u_same }
+        pub stepped_with : StepsWith s (counted t) zs
+        stepped_with = record { runs = t_runs; made = t_made; same = t_same }
 
     -- the fault of a step
-    pub ends_last_with : (f : Fault) → Ends (history s) s f → IsLast s f
-    ends_last_with f w = subst (λ (g : Fault). IsLast s g) w.2 (last_is w.0 w.1)
-
--- of a scanner that runs
-module _ (s : Scanner) (r : IsRunning s) where
-  pub is_run : IsRun (next (input_of s) s.limit) s.limit (course_of s).read
-  is_run = is_run_with s (groups_in s) (runs_with s r)
-
-  pub read_history : IsHistory s.limit (course_of s).read
-  read_history = read_history_with s (groups_in s) (runs_with s r)
-
-  pub read_short : length (course_of s).read ≤ length s.text.chars + 1
-  read_short = read_short_with s (groups_in s) (runs_with s r)
-
-  pub inside : s.made - 1 ≤ length (course_of s).read
-  inside = inside_with s (groups_in s) (runs_with s r)
-
-  pub ends_last : ended (history s) ≡ false → (f : Fault) → Ends (history s) s f → IsLast s f
-  ends_last e = ends_last_with s (groups_in s) (runs_with s r) e
+    pub ends_last : (f : Fault) → Ends (history s) s f → IsLast s f
+    ends_last f w = subst (λ (g : Fault). IsLast s g) w.2 (last_is w.0 w.1)
 
 -- two steps at once, neither of which is near
-module _ (s : Scanner) (ys : List group_t) (r : RunsWith s ys) (e : ended (history s) ≡ false) (t : Scanner) (zs : List group_t) (a : AdvancesTwice (history s) s t zs) (far : t.reach.index < s.near) where
+module _ (s : Scanner) {ys : List group_t} (r : RunsWith s ys) (e : ended (history s) ≡ false) (t : Scanner) (zs : List group_t) (a : AdvancesTwice (history s) s t zs) (far : t.reach.index < s.near) where
   abbrev between : Scanner
   between = counted a.between
 
   once : StepsWith s between a.then_queued
-  once = stepped_with s ys r e a.between a.then_queued a.first between refl refl refl refl refl refl refl refl refl refl between.reach.index refl a.far
+  once = stepped_with s r e a.between a.then_queued a.first a.far
 
   history_then : history between ≡ laid s.limit (history s) a.first.lexeme ∷ history s
-  history_then = u_history s ys r e a.between a.then_queued a.first between refl refl refl refl refl refl refl refl refl refl between.reach.index refl a.far
+  history_then = t_history s r e a.between a.then_queued a.first a.far
 
   then_advances : AdvancesWith (history between) between t zs
   then_advances = subst (λ (H : List Laid). AdvancesWith H between t zs) (sym history_then) a.second
@@ -273,7 +232,7 @@ module _ (s : Scanner) (ys : List group_t) (r : RunsWith s ys) (e : ended (histo
   then_far = let q = once.same in let n = q.near in omega arith
 
   twice : (u : Scanner) → u ≡ counted t → StepsWith between u zs
-  twice u q = rw q (stepped_with between a.then_queued once.runs (rw history_then a.running) t zs then_advances (counted t) refl refl refl refl refl refl refl refl refl refl t.reach.index refl then_far)
+  twice u q = rw q (stepped_with between once.runs (rw history_then a.running) t zs then_advances then_far)
 
   middle_is : oldest s.made (course_of s).read ≡ laid s.limit (history s) a.first.lexeme ∷ history s
   unfolding history
@@ -285,36 +244,36 @@ module _ (s : Scanner) (ys : List group_t) (r : RunsWith s ys) (e : ended (histo
   both_needed : Needs true (history s) s t zs a → length (before s.limit (oldest s.made (course_of s).read)) ≤ s.taken
   both_needed n = rw middle_is (n refl)
 
-one_step : (s u : Scanner) (ys : List group_t) → RunsWith s ys → ended (history s) ≡ false → (t : Scanner) (zs : List group_t) → AdvancesWith (history s) s t zs → t.reach.index < s.near → u ≡ counted t → StepsWith s u zs
-one_step s u ys r e t zs a far q = rw q (stepped_with s ys r e t zs a (counted t) refl refl refl refl refl refl refl refl refl refl t.reach.index refl far)
+one_step : (s u : Scanner) {ys : List group_t} → RunsWith s ys → ended (history s) ≡ false → (t : Scanner) (zs : List group_t) → AdvancesWith (history s) s t zs → t.reach.index < s.near → u ≡ counted t → StepsWith s u zs
+one_step s u r e t zs a far q = rw q (stepped_with s r e t zs a far)
 
 -- one step was made, or two, whether the next token needs both or not
 pub some_steps : (sparing : Bool) (s u : Scanner) (zs : List group_t) → IsRunning s → ended (history s) ≡ false → Makes sparing (history s) s u zs → RunsWith u zs × (s.made < u.made) × Same s u
-some_steps sparing s u zs r e (inl m) = let k = one_step s u (groups_in s) (runs_with s r) e m.0 zs m.1 m.2 m.3 in let n = k.made in (k.runs, omega arith, k.same)
+some_steps sparing s u zs r e (inl m) = let k = one_step s u r e m.0 zs m.1 m.2 m.3 in let n = k.made in (k.runs, omega arith, k.same)
 some_steps sparing s u zs r e (inr m) =
     let t : Scanner = m.0 in
     let a = m.1.0.0 in
-    let j = once s (groups_in s) (runs_with s r) e (counted t) zs a m.1.1 in
-    let k = twice s (groups_in s) (runs_with s r) e (counted t) zs a m.1.1 u m.2 in
+    let j = once s r e (counted t) zs a m.1.1 in
+    let k = twice s r e (counted t) zs a m.1.1 u m.2 in
     let l = j.made in
     let n = k.made in
     (k.runs, omega arith, same_trans s (counted a.between) u j.same k.same)
 
 -- a step of the scanner is the next one of its input
 pub steps_on : (s u : Scanner) → IsRunning s → ended (history s) ≡ false → Makes true (history s) s u (groups_in u) → StepsOn s u
-steps_on s u r e (inl m) = inl (steps_of s u (one_step s u (groups_in s) (runs_with s r) e m.0 (groups_in u) m.1 m.2 m.3))
+steps_on s u r e (inl m) = inl (one_step s u r e m.0 (groups_in u) m.1 m.2 m.3)
 steps_on s u r e (inr m) =
     let t : Scanner = m.0 in
     let a = m.1.0.0 in
-    let j = once s (groups_in s) (runs_with s r) e (counted t) (groups_in u) a m.1.1 in
-    let k = twice s (groups_in s) (runs_with s r) e (counted t) (groups_in u) a m.1.1 u m.2 in
+    let j = once s r e (counted t) (groups_in u) a m.1.1 in
+    let k = twice s r e (counted t) (groups_in u) a m.1.1 u m.2 in
     let l = j.made in
     let n = k.made in
     inr (record {
-      runs = runs_on u (groups_in u) refl k.runs;
+      runs = k.runs;
       made = omega arith;
       same = same_trans s (counted a.between) u j.same k.same;
-      needed = both_needed s (groups_in s) (runs_with s r) e (counted t) (groups_in u) a m.1.1 m.1.0.1;
+      needed = both_needed s r e (counted t) (groups_in u) a m.1.1 m.1.0.1;
     })
 
 -- or the last one of its input
@@ -327,7 +286,7 @@ step_on s t (Err stop) r e w = (elim w.0 [ inl m ↦ inl m | inr f ↦ inr (ends
 pub few_made : (s : Scanner) → IsRunning s → s.made + 2 < 2 ^ 64
 few_made s r = let a = r.within in let b = read_short s r in let c = r.small in omega arith
 
-pub history_length : (s : Scanner) → IsRunning s → length (history s) ≡ s.made - 1
+pub history_length : (s : Scanner) {ys : List group_t} → RunsWith s ys → length (history s) ≡ s.made - 1
 unfolding history
 history_length s r = oldest_length (course_of s).read (s.made - 1) (inside s r)
 

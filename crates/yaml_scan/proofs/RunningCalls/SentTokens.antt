@@ -15,7 +15,7 @@ use Rattle.yaml_scan.specs.Settled.{before, pace, steps_for}
 use Rattle.yaml_scan.specs.Token.{yaml_token_t}
 use Rattle.yaml_scan.specs.inside.Given.{HasGiven}
 use Rattle.yaml_scan.specs.inside.Handed.{groups_tokens, Empties, StepsTo}
-use Rattle.yaml_scan.specs.inside.Scanning.{CanStep, Fails, IsOpen, Makes, Refuses, Same, Stops, course_of, groups_in, history}
+use Rattle.yaml_scan.specs.inside.Scanning.{CanStep, Fails, IsOpen, Makes, Refuses, Same, Stops, course_of, groups_in, history, RunsWith}
 use Rattle.yaml_scan.specs.inside.Sent.{Sends}
 use Rattle.yaml_scan.specs.inside.Stop.{fault_at}
 use Rattle.yaml_scan.proofs.Course.StepsNeeded.{enough, needs_more, older, oldest_length, oldest_twice, split}
@@ -23,7 +23,7 @@ use Rattle.yaml_scan.proofs.RunningQueue.CandidateGroup.{count, count-append, co
 use Rattle.yaml_scan.proofs.RunningQueue.WholeQueue.{whole_front}
 use Rattle.yaml_scan.proofs.TokenList.SettledStays.{before-before, before-offline}
 use Rattle.yaml_scan.proofs.RunningCalls.GivenTokens as given
-use Rattle.yaml_scan.proofs.RunningCalls.NextOfInput.{RunsWith, course_same, ends_last, history_length, inside, read_history, some_steps, steps_on}
+use Rattle.yaml_scan.proofs.RunningCalls.NextOfInput.{course_same, ends_last, history_length, inside, read_history, some_steps, steps_on}
 use Rattle.yaml_scan.proofs.RunningCalls.StepsMade.{Goes, fails, goes_on, open_too, still_running, stops}
 
 -- HOW MANY TOKENS ARE SETTLED
@@ -75,6 +75,12 @@ module _ (a s : Scanner) (g : Goes a s) (o : IsOpen a) (l : length (before s.lim
     all_taken : t.taken ≡ length (offline (history m))
     all_taken = given.taken_then m zs p.0 open_m tokens e.all t e
 
+    limit_then : t.limit ≡ m.limit
+    limit_then = given.limit_then m zs p.0 open_m tokens e.all t e
+
+    made_then : t.made ≡ m.made
+    made_then = given.made_then m zs p.0 open_m tokens e.all t e
+
     same_history : history t ≡ history m
     same_history = given.history_then m zs p.0 open_m tokens e.all t e
 
@@ -101,7 +107,7 @@ module _ (a s : Scanner) (g : Goes a s) (o : IsOpen a) (l : length (before s.lim
         let y = ap (λ (X : List Laid). length X) z.1 in
         let v = history_length t h.runs in
         let c = oldest_length (oldest (t.made - 1) R) n (omega arith) in
-        let f : before t.limit (history t) ≡ offline (history t) = ap (λ (X : List Laid). before t.limit X) same_history ∙ ap (λ (i : ℕ). before i (history m)) e.limit ∙ whole ∙ ap offline (sym same_history) in
+        let f : before t.limit (history t) ≡ offline (history t) = ap (λ (X : List Laid). before t.limit X) same_history ∙ ap (λ (i : ℕ). before i (history m)) limit_then ∙ whole ∙ ap offline (sym same_history) in
         let d : length (before t.limit P) < length (offline (z.0 ++ P)) = more_settled t.limit z.0 P H (older t.limit z.0 P H) (omega arith) (subst (λ (X : List Laid). before t.limit X ≡ offline X) z.1 f) in
         let i = ap (λ (X : List Laid). length (offline X)) (sym z.1 ∙ same_history) in
         let j = all_taken in
@@ -112,7 +118,7 @@ module _ (a s : Scanner) (g : Goes a s) (o : IsOpen a) (l : length (before s.lim
     last_needs =
         let q = p.1 in
         let b = g.runs.begun in
-        let n = e.made in
+        let n = made_then in
         let w = h.runs.within in
         let f = fewer_before (t.made - 2) (omega arith) in
         let k = needs_more t.limit (course_of t).read (t.taken - 1) (t.made - 2) (read_history t h.runs) (omega arith) (omega arith) in
@@ -121,9 +127,9 @@ module _ (a s : Scanner) (g : Goes a s) (o : IsOpen a) (l : length (before s.lim
     last_has : steps_for t.limit (course_of t).read (t.taken - 1) ≤ t.made
     unfolding history
     last_has =
-        let f = fewer_before 0 (let q = p.1 in let b = g.runs.begun in let n = e.made in omega arith) in
+        let f = fewer_before 0 (let q = p.1 in let b = g.runs.begun in let n = made_then in omega arith) in
         let j = ap (λ (X : List Laid). length (before t.limit X)) same_history in
-        let i = ap (λ (n : ℕ). length (before n (history m))) e.limit in
+        let i = ap (λ (n : ℕ). length (before n (history m))) limit_then in
         let w = ap (λ (X : List Token). length X) whole in
         let v = all_taken in
         let k = enough t.limit (course_of t).read (t.taken - 1) (t.made - 1) (inside t h.runs) (omega arith) in
@@ -134,11 +140,11 @@ module _ (a s : Scanner) (g : Goes a s) (o : IsOpen a) (l : length (before s.lim
     unfolding history
     some_given =
         let q = p.1 in
-        let n = e.made in
+        let n = made_then in
         let f = fewer_before (s.made - 1) (let b = g.runs.begun in omega arith) in
         let c = ap (λ (X : Course). length (before t.limit (oldest (s.made - 1) X.read))) course_t in
         let i = ap (λ (k : ℕ). length (before k (oldest (s.made - 1) (course_of s).read))) limits in
-        let d = e.taken in
+        let d = ap (λ (z : Scanner). z.taken) e.same in
         let u = p.2.taken in
         let r = g.runs.holds.taken in
         omega arith
@@ -163,14 +169,14 @@ module _ (a s : Scanner) (g : Goes a s) (o : IsOpen a) (l : length (before s.lim
           refusal = h.refusal ∙ S.refusal;
           limit = h.limit ∙ S.limit;
           some = some_given;
-          taken = (let d = e.taken in let u = p.2.taken in let v = S.taken in omega arith);
+          taken = (let d = ap (λ (z : Scanner). z.taken) e.same in let u = p.2.taken in let v = S.taken in omega arith);
           told = h.given ∙ ap (λ (z : List yaml_token_t). z ++ tokens) (given.taken_is a s S.text S.refusal S.limit a.taken S.taken);
-          least = (let q = p.1 in let n = e.made in let v = g.least in omega arith);
+          least = (let q = p.1 in let n = made_then in let v = g.least in omega arith);
           made = (let x = ap (λ (C : Course). steps_for t.limit C.read (t.taken - 1)) (course_t ∙ c) in
               let y = ap (λ (n : ℕ). steps_for n (course_of a).read (t.taken - 1)) (h.limit ∙ S.limit) in
               let u = last_needs in
               let v = last_has in
-              let q = p.1 in let n = e.made in let z = g.least in
+              let q = p.1 in let n = made_then in let z = g.least in
               omega arith);
           no_end = e.all.no_end;
         }

@@ -15,7 +15,8 @@ use Rattle.yaml_scan.specs.inside.Scanning.{input_of}
 use Rattle.yaml_scan.proofs.TokenList.OneLexemeMore.{all_is_handed_out}
 use Rattle.yaml_scan.proofs.Course.NextStep.{oldest_all, oldest_tail}
 use Rattle.yaml_scan.proofs.Course.StepsNeeded.{enough, needs_more}
-use Rattle.yaml_scan.proofs.RunningCalls.NextOfInput.{is_run, read_history, inside, course_same, same_trans}
+use Rattle.yaml_scan.proofs.RunningCalls.NextOfInput.{is_run, read_history, inside, course_same}
+use Rattle.yaml_scan.proofs.RunningStep.StepMoves.{same_trans}
 
 -- only the whole list has ended
 pub ended_all : (p : List Laid → Outcome) (limit : ℕ) (H : List Laid) (k : ℕ) → IsRun p limit H → k ≤ length H → ended (oldest k H) ≡ true → k ≡ length H

@@ -1,6 +1,5 @@
 -- The head of the queue is the next token of the list, and taking it leaves the rest.
 use Rattle.std.proofs.Common.{◌≡◌, ℕ, zero, suc, ◌+◌, ◌-◌, ◌<◌, ◌^◌, List, [], ◌∷◌, ◌++◌, length, drop, slice_get, Some, refl, ap, sym, ◌∙◌, subst, arith}
-use Rattle.yaml_scan.specs.Course.{Course}
 use Rattle.yaml_scan.specs.inside.Scanner.{Scanner}
 use Rattle.yaml_scan.specs.Token.{yaml_token_t}
 use Rattle.yaml_scan.specs.Laid.{Laid}
@@ -10,13 +9,14 @@ use Rattle.yaml_scan.specs.Settled.{before}
 use Rattle.yaml_scan.specs.declared.groups.queue_t.{queue_t}
 use Rattle.yaml_scan.specs.inside.Handed.{set_queue}
 use Rattle.yaml_scan.specs.inside.Queue.{IsQueue, Takes, TakesNext}
-use Rattle.yaml_scan.specs.inside.Scanning.{Holds, IsRunning, history, course_of}
+use Rattle.yaml_scan.specs.inside.Holding.{HoldsQueue}
+use Rattle.yaml_scan.specs.inside.Scanning.{IsRunning, history, course_of}
 use Rattle.yaml_scan.specs.inside.Ready.{Pops}
 use Rattle.yaml_scan.proofs.TokenList.QueueBound.{length-begins}
 use Rattle.yaml_scan.proofs.TokenList.SettledStays.{before-before, before-offline}
 use Rattle.yaml_scan.proofs.Course.StepsNeeded.{split}
 use Rattle.yaml_scan.proofs.RunningQueue.CandidateGroup.{groups_count, drop_count, offline_whole}
-use Rattle.yaml_scan.proofs.RunningCalls.NextOfInput.{read_history, inside, history_length, few_made}
+use Rattle.yaml_scan.proofs.RunningCalls.NextOfInput.{read_history, runs_queued, inside, history_length, few_made}
 
 get-append : (xs ys : List Token) (n : ℕ) → n < length xs → slice_get (xs ++ ys) n ≡ slice_get xs n
 get-append [] ys n l = absurd (omega arith)
@@ -42,12 +42,12 @@ module _ (s : Scanner) (r : IsRunning s) (l : s.taken < length (before s.limit (
   pub groups_some : 0 < length s.layout.queue.groups.items
   groups_some =
       let b = length-begins _ _ (before-offline s.limit (history s) r.holds.is_history) in
-      let c = groups_count s.text.encoding s.layout.queue.early s.layout.queue.front s.layout.queue.groups.items (drop s.taken (offline (history s))) r.holds.queue in
+      let c = groups_count s.text.encoding s.layout.queue.early s.layout.queue.front s.layout.queue.groups.items (drop s.taken (offline (history s))) r.holds.queue.tokens in
       let d = drop_count (offline (history s)) s.taken (offline_whole (history s)) (omega arith) in
       omega arith
 
   pub few_done : s.layout.queue.done + 1 < 2 ^ 64
-  few_done = let a = r.holds.count in let b = history_length s r in let c = few_made s r in omega arith
+  few_done = let a = r.holds.queue.count in let b = history_length s r in let c = few_made s r in omega arith
 
   pub token_is : (first : Token) (rest : List Token) → drop s.taken (offline (history s)) ≡ first ∷ rest → slice_get (before s.limit (course_of s).read) s.taken ≡ Some first
   unfolding history
@@ -55,60 +55,30 @@ module _ (s : Scanner) (r : IsRunning s) (l : s.taken < length (before s.limit (
       let z = split (course_of s).read (s.made - 1) (inside s r) in
       sym (head_same s.limit (course_of s).read (history s) z.0 s.taken z.1 (read_history s r) r.holds.is_history l) ∙ (get-drop (offline (history s)) s.taken first rest e).0
 
-  module _ (u : Scanner) (x : yaml_token_t) (K : Takes s.text.encoding s.layout.queue u.layout.queue x (drop s.taken (offline (history s)))) where
-    parts : (slice_get (offline (history s)) s.taken ≡ Some K.first) × (drop (s.taken + 1) (offline (history s)) ≡ K.rest)
-    parts = get-drop (offline (history s)) s.taken K.first K.rest K.is
+  -- the head is taken from the queue
+  module _ (q : queue_t) (x : yaml_token_t) (k : TakesNext s.layout.queue q x) where
+    taken_from : Takes s.text.encoding s.layout.queue q x (drop s.taken (offline (history s)))
+    taken_from = k s.text.encoding (drop s.taken (offline (history s))) r.holds.queue.tokens
 
-    module _ (H : u.text ≡ s.text) (J : u.refusal ≡ s.refusal) (N : u.near ≡ s.near) (L : u.limit ≡ s.limit) (V : u.layout.levels ≡ s.layout.levels) (O : u.slots ≡ s.slots) (A : u.allowed ≡ s.allowed) (R : u.reach ≡ s.reach) (M : u.made ≡ s.made) (T : u.taken ≡ s.taken + 1) where
-      course_same : course_of u ≡ course_of s
-      unfolding course_of
-      course_same = rw (H, J, L) refl
+    parts : (slice_get (offline (history s)) s.taken ≡ Some taken_from.first) × (drop (s.taken + 1) (offline (history s)) ≡ taken_from.rest)
+    parts = get-drop (offline (history s)) s.taken taken_from.first taken_from.rest taken_from.is
 
-      history_same : history u ≡ history s
-      unfolding history
-      history_same = rw (course_same, M) refl
+    queue_held : HoldsQueue s.text.encoding (s.taken + 1) (history s) q q.groups.items
+    queue_held = let w = r.holds.queue in record {
+      tokens = subst (λ (z : List Token). IsQueue s.text.encoding q.early q.front q.groups.items z) (sym parts.1) taken_from.queue;
+      count = (let a = taken_from.count in let b = w.count in omega arith);
+      early = λ z. (let a = taken_from.early in let b = w.early z in omega arith);
+    }
 
-      held : Holds (history s) (u.made + 1) u
-      held = let g = r.holds in record {
-        text = rw H g.text;
-        is_history = subst (λ (k : ℕ). IsHistory k (history s)) (sym L) g.is_history;
-        number = (let n = g.number in omega (arith, M));
-        fresh = rw L g.fresh;
-        levels = rw V g.levels;
-        columns = rw H g.columns;
-        outer = rw (O, L) g.outer;
-        empty = rw O g.empty;
-        top = rw (O, L) g.top;
-        awaited = rw O g.awaited;
-        allowed = rw A g.allowed;
-        queue = rw (H, T) (subst (λ (z : List Token). IsQueue s.text.encoding u.layout.queue.early u.layout.queue.front u.layout.queue.groups.items z) (sym parts.1) K.queue);
-        count = (let a = K.count in let b = g.count in omega arith);
-        early = λ z. (let a = K.early in let b = g.early z in omega arith);
-        reach = rw R g.reach;
-        taken = rw (T, L) (omega (arith, l));
-        place = rw (H, R) g.place;
-      }
-
-      pub pops : Pops s u x
-      pops = record {
-        token = K.first;
-        is = token_is K.first K.rest K.is;
-        answer = K.told;
-        runs = record {
-          small = rw H r.small;
-          near = rw (H, J, N) r.near;
-          holds = subst (λ (Z : List Laid). Holds Z (u.made + 1) u) (sym history_same) held;
-          begun = rw M r.begun;
-          start = rw course_same r.start;
-          within = (let w = r.within in let c = ap (λ (x : Course). length x.read) course_same in omega (arith, M));
-        };
-        text = H;
-        refusal = J;
-        limit = L;
-        made = M;
-        taken = T;
-      }
-
--- the same of a scanner that has taken it from its queue
-pub next_popped : (s : Scanner) → IsRunning s → s.taken < length (before s.limit (history s)) → (q : queue_t) (x : yaml_token_t) → TakesNext s.layout.queue q x → Pops s (set_queue s q (s.taken + 1)) x
-next_popped s r l q x k = pops s r l (set_queue s q (s.taken + 1)) x (k s.text.encoding (drop s.taken (offline (history s))) r.holds.queue) refl refl refl refl refl refl refl refl refl refl
+    pub next_popped : Pops s (set_queue s q (s.taken + 1)) x
+    next_popped = record {
+      token = taken_from.first;
+      is = token_is taken_from.first taken_from.rest taken_from.is;
+      answer = taken_from.told;
+      runs = runs_queued s r q (s.taken + 1) queue_held (omega (arith, l));
+      text = refl;
+      refusal = refl;
+      limit = refl;
+      made = refl;
+      taken = refl;
+    }

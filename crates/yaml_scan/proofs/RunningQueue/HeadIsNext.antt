@@ -2,7 +2,11 @@
 use Rattle.std.proofs.Common.{◌≡◌, ℕ, ◌+◌, ◌-◌, ◌≤◌, ◌<◌, not, ◌&&◌, Bool, true, false, List, length, Some, None, refl, ap, sym, ◌∙◌, arith, inl, inr, ltb, eqb, lt-ltb, le-ltb, eq-eqb, ne_eqb}
 use Rattle.std.specs.Prelude.{◌⊎◌}
 use Rattle.std.proofs.lemmas.Bool.{cases_eq, cases_lt}
+use Rattle.yaml_scan.specs.declared.groups.group_t.{group_t}
 use Rattle.yaml_scan.specs.inside.Slots.{Held, held, held_of, outer_to, step_of, lowest}
+use Rattle.yaml_scan.specs.inside.Queue.{begins_with_end, pending}
+use Rattle.yaml_scan.specs.inside.Scanner.{Scanner}
+use Rattle.yaml_scan.specs.inside.Scanning.{HoldsWith}
 use Rattle.yaml_scan.specs.Settled.{up_to, before}
 use Rattle.yaml_scan.specs.Groups.{offline}
 use Rattle.yaml_scan.specs.Laid.{Laid, reach}
@@ -13,7 +17,8 @@ use Rattle.yaml_scan.proofs.TokenList.QueueBound.{length-begins}
 use Rattle.yaml_scan.proofs.TokenList.SettledStays.{before-offline}
 use Rattle.yaml_scan.proofs.TokenList.AllSettled.{candidate_above}
 use Rattle.yaml_scan.proofs.RunningQueue.QueueTokens.{settled, not_settled}
-use Rattle.yaml_scan.proofs.RunningQueue.SlotOrder.{IsHeld, IsLowest, IsNone, held_is, lowest_is, token_order}
+use Rattle.yaml_scan.proofs.RunningQueue.CandidateGroup.{head_awaited, none_left}
+use Rattle.yaml_scan.proofs.RunningQueue.SlotOrder.{IsHeld, IsLowest, IsNone, awaited_is, held_is, lowest_is, token_order}
 
 module _ (limit : ℕ) (H : List Laid) (h : IsHistory limit H) (t : ℕ) (l : t ≤ length (before limit H)) where
   -- all that was made is settled, where no candidate stands at the head
@@ -50,7 +55,7 @@ module _ (limit : ℕ) (H : List Laid) (h : IsHistory limit H) (t : ℕ) (l : t 
     lowest_late e = let b = not_settled limit H r.at here.laid h here.is here.still in omega arith
 
   -- where a candidate that is held is told to be at the head if it is
-  pub settled_test : (d : ℕ) (ends : Bool) → ((k : ℕ) (c : Laid) → candidate H k ≡ Some c → t ≤ length (up_to H (Some c)) → (eqb (c.number + 2) (d + 1) && not ends) ≡ eqb t (length (up_to H (Some c))))
+  settled_test : (d : ℕ) (ends : Bool) → ((k : ℕ) (c : Laid) → candidate H k ≡ Some c → t ≤ length (up_to H (Some c)) → (eqb (c.number + 2) (d + 1) && not ends) ≡ eqb t (length (up_to H (Some c))))
       → (e : Bool) → e ≡ eqb (length (offline H) - t) 0 → (w : ℕ) → w ≡ step_of (lowest (outer_to limit H (depth H + 1)))
       → (not e && not (eqb w (d + 1) && not ends)) ≡ ltb t (length (before limit H))
   settled_test d ends W e E w Q = elim (cases_eq (length (offline H) - t) 0) [
@@ -75,3 +80,11 @@ module _ (limit : ℕ) (H : List Laid) (h : IsHistory limit H) (t : ℕ) (l : t 
             | inl z ↦ rw (eq-eqb _ _ z) (sym (le-ltb _ _ (lowest_late r z)))
             | inr z ↦ rw (ne_eqb _ _ z) (sym (lt-ltb _ _ (lowest_open r z m)))
           ])
+
+-- a scanner tests whether its queue has a group, for which no candidate is awaited
+pub head_tested : (H : List Laid) (n : ℕ) (s : Scanner) (ys : List group_t) → HoldsWith H n s ys → (none : Bool) → none ≡ eqb (length ys) 0
+    → (not none && not (eqb s.slots.awaited (s.layout.queue.done + 1) && not (begins_with_end (pending s.layout.queue.early s.layout.queue.front ys)))) ≡ ltb s.taken (length (before s.limit H))
+head_tested H n s ys h none e = let q = s.layout.queue in
+    settled_test s.limit H h.is_history s.taken h.taken q.done (begins_with_end (pending q.early q.front ys))
+    (λ k x e l. head_awaited s.limit H k x s.taken s.text.encoding q.early q.front ys q.done h.is_history h.queue.tokens h.queue.count e l)
+    none (e ∙ none_left H s.taken s.text.encoding q.early q.front ys h.queue.tokens) s.slots.awaited (awaited_is s.limit H s.slots s.allowed h.keys)

@@ -27,11 +27,11 @@ up_to_short limit H k c h s =
 
 -- the token of a candidate would be queued
 pub none_held : (H : List Laid) (n : ℕ) (s : Scanner) → Holds H n s → s.layout.queue.groups.items ≡ [] → lowest s.slots.outer.items ≡ None
-none_held H n s h e = rw h.outer (go (lowest_is s.limit H (depth H)))
+none_held H n s h e = rw h.keys.outer (go (lowest_is s.limit H (depth H)))
   where
     all_taken : length (offline H) ≤ s.taken
     all_taken =
-        let l = none_left H s.taken s.text.encoding s.layout.queue.early s.layout.queue.front s.layout.queue.groups.items h.queue in
+        let l = none_left H s.taken s.text.encoding s.layout.queue.early s.layout.queue.front s.layout.queue.groups.items h.queue.tokens in
         let z : length (offline H) - s.taken ≡ 0 = eqb-true _ _ (sym l ∙ (rw e refl)) in
         omega arith
 

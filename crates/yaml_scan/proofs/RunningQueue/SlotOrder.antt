@@ -1,5 +1,5 @@
 -- Candidates of greater depths start later, and their tokens are further on.
-use Rattle.std.proofs.Common.{◌≡◌, ℕ, zero, suc, ◌+◌, ◌≤◌, ◌<◌, true, List, [], ◌∷◌, ◌++◌, length, Option, Some, None, refl, ap, sym, ◌∙◌, subst, arith, inl, inr, eqb-true}
+use Rattle.std.proofs.Common.{◌≡◌, ℕ, zero, suc, ◌+◌, ◌≤◌, ◌<◌, Bool, true, List, [], ◌∷◌, ◌++◌, length, Option, Some, None, refl, ap, sym, ◌∙◌, subst, arith, inl, inr, eqb-true}
 use Rattle.std.specs.Prelude.{◌⊎◌, slice_get, option_map}
 use Rattle.std.proofs.lemmas.Bool.{cases_Bool, cases_eq, and_parts}
 use Rattle.std.proofs.lemmas.Option.{slice_get_within}
@@ -7,7 +7,9 @@ use Rattle.yaml_text.specs.declared.types.yaml_mark_t.{yaml_mark_t}
 use Rattle.yaml_scan.specs.Laid.{Laid, reach}
 use Rattle.yaml_scan.specs.Keys.{candidate, live, only_live}
 use Rattle.yaml_scan.specs.Depth.{depth}
-use Rattle.yaml_scan.specs.inside.Slots.{Held, held, held_of, outer_to, lowest, AreNested}
+use Rattle.yaml_scan.specs.declared.depth.slots_t.{slots_t}
+use Rattle.yaml_scan.specs.inside.Holding.{HoldsKeys}
+use Rattle.yaml_scan.specs.inside.Slots.{Held, held, held_of, outer_to, lowest, step_of, AreNested}
 use Rattle.yaml_scan.specs.Settled.{up_to}
 use Rattle.yaml_scan.specs.Order.{IsHistory, IsNotBefore}
 use Rattle.yaml_scan.proofs.History.KeyCandidates.{candidate_split}
@@ -113,9 +115,9 @@ outer_nested limit H h k n x y l e f =
     same_slot : (a b : Option Held) → Some a ≡ Some b → a ≡ b
     same_slot a b q = cc
 
--- those of the outer depths and of the present one
-pub outer_more : (limit : ℕ) (H : List Laid) (hs : List (Option Held)) (top : Option Held) → hs ≡ outer_to limit H (depth H) → top ≡ held limit H (depth H) → hs ++ top ∷ [] ≡ outer_to limit H (depth H + 1)
-outer_more limit H hs top e f = let n : depth H + 1 ≡ suc (depth H) = omega arith in rw (e, f, n) refl
+-- the step of the candidate of the least depth
+pub awaited_is : (limit : ℕ) (H : List Laid) (slots : slots_t) (may : Bool) → HoldsKeys limit H slots may → slots.awaited ≡ step_of (lowest (outer_to limit H (depth H + 1)))
+awaited_is limit H slots may k = let n : depth H + 1 ≡ suc (depth H) = omega arith in k.awaited ∙ (rw (k.outer, k.top, n) refl)
 
 -- the lowest candidate of those below depth n
 pub record IsLowest (limit : ℕ) (H : List Laid) (n : ℕ) : Type 0 where

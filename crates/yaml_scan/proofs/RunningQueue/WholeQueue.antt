@@ -1,6 +1,6 @@
 -- If no candidate is awaited, all tokens that were made are settled, and the groups of the queue hand them out.
 use Rattle.std.proofs.Common.{◌≡◌, ℕ, zero, suc, ◌+◌, ◌≤◌, Bool, true, false, List, [], ◌∷◌, ◌++◌, map, length, length-append, append-nil, append_assoc, refl, ap, sym, ◌∙◌, arith, inl, inr}
-use Rattle.std.specs.Prelude.{◌⊎◌, if◌then◌else◌, Option}
+use Rattle.std.specs.Prelude.{◌⊎◌, if◌then◌else◌}
 use Rattle.std.proofs.lemmas.Bool.{cases_lt}
 use Rattle.std.proofs.lemmas.List.{map-append}
 use Rattle.yaml_text.specs.declared.types.yaml_encoding_t.{yaml_encoding_t}
@@ -23,7 +23,7 @@ use Rattle.yaml_scan.specs.inside.Scanning.{HoldsWith}
 use Rattle.yaml_scan.specs.inside.Slots.{Held, lowest, outer_to, step_of}
 use Rattle.yaml_scan.proofs.TokenList.SettledStays.{before-offline}
 use Rattle.yaml_scan.proofs.RunningQueue.HeadIsNext.{none_open}
-use Rattle.yaml_scan.proofs.RunningQueue.SlotOrder.{IsLowest, IsNone, held_is, lowest_is, outer_more}
+use Rattle.yaml_scan.proofs.RunningQueue.SlotOrder.{IsLowest, IsNone, held_is, lowest_is, awaited_is}
 
 -- WHAT GROUPS HAND OUT
 -- the leads of a group are the same in every encoding
@@ -90,7 +90,7 @@ module _ (H : List Laid) (n : ℕ) (s : Scanner) (ys : List group_t) (h : HoldsW
   none_awaits = go (lowest_is s.limit H (depth H + 1))
     where
       lowest_zero : step_of (lowest (outer_to s.limit H (depth H + 1))) ≡ 0
-      lowest_zero = ap (λ (l : List (Option Held)). step_of (lowest l)) (sym (outer_more s.limit H s.slots.outer.items s.slots.top h.outer h.top)) ∙ sym h.awaited ∙ z
+      lowest_zero = sym (awaited_is s.limit H s.slots s.allowed h.keys) ∙ z
 
       go : IsLowest s.limit H (depth H + 1) ⊎ IsNone s.limit H (depth H + 1) → IsNone s.limit H (depth H + 1)
       go (inr r) = r

@@ -12,8 +12,7 @@ use Rattle.yaml_text.specs.Decoding.{refusal_seen}
 use Rattle.yaml_lexeme.specs.Place.{skip}
 use Rattle.yaml_lexeme.specs.Counted.{IsMarkOf}
 use Rattle.yaml_scan.specs.Course.{oldest, course}
-use Rattle.yaml_scan.specs.declared.scanner.state_t.{state_t}
-use Rattle.yaml_scan.specs.inside.Scanner.{Scanner, scanner_of}
+use Rattle.yaml_scan.specs.inside.Scanner.{Scanner}
 use Rattle.yaml_scan.specs.SourceOf.{source_of}
 use Rattle.yaml_scan.specs.Laid.{Laid, reach}
 use Rattle.yaml_scan.specs.Keys.{candidate}
@@ -21,7 +20,7 @@ use Rattle.yaml_scan.specs.Depth.{depth}
 use Rattle.yaml_scan.specs.Levels.{open_columns}
 use Rattle.yaml_scan.specs.inside.Slots.{held, outer_to}
 use Rattle.yaml_scan.specs.Step.{stale, required}
-use Rattle.yaml_scan.specs.Groups.{Token, offline, groups}
+use Rattle.yaml_scan.specs.Groups.{offline, groups}
 use Rattle.yaml_scan.specs.Groups.Token.{StreamStart}
 use Rattle.yaml_scan.specs.Near.{starts_near}
 use Rattle.yaml_scan.specs.inside.NearFault.{near_fault}
@@ -84,23 +83,6 @@ encoding_in setting input = refl
 -- the first step is one, if no reader's fault has replaced it
 pub begun_in : (limit : ℕ) (setting : yaml_encoding_t) (input : List ℕ) (text : Text) → text ≡ front setting input → (r : Option Fault) → r ≡ refusal setting input → (near : ℕ) → IsNearOf r text.chars near → near_fault near 0 r ≡ None → (course_in limit setting input).begun ≡ true
 begun_in limit setting input text T r R near N e = begun_course limit setting input text T r R near N e
-
--- a scanner that has read nothing is new beside any text
-pub new_beside : (s : state_t) (a b : Text) → IsNew (scanner_of a s) → IsNew (scanner_of b s)
-new_beside s a b n = record {
-  levels = n.levels;
-  outer = n.outer;
-  empty = n.empty;
-  top = n.top;
-  awaited = n.awaited;
-  allowed = n.allowed;
-  queue = n.queue;
-  done = n.done;
-  early = n.early;
-  reach = n.reach;
-  taken = n.taken;
-  made = n.made;
-}
 
 pub new_reach : (s : Scanner) → IsNew s → (H : List Laid) → s.reach ≡ reach (first_steps s.made H)
 new_reach s n H = let m = n.made in n.reach ∙ ap reach (sym (first_none s.made H (omega arith)))
@@ -166,17 +148,16 @@ module _ (setting : yaml_encoding_t) (input : List ℕ) (s t : Scanner) (n : IsN
     text = C;
     is_history = tt;
     number = omega (arith, M);
-    fresh = empty_fresh t.limit;
-    levels = ap reverse V ∙ ap reverse n.levels ∙ sym empty_columns;
-    columns = rw empty_columns tt;
-    outer = rw O (n.outer ∙ sym (empty_outer t.limit));
-    empty = rw (O, n.outer) n.empty;
-    top = rw O (n.top ∙ sym (empty_top t.limit));
-    awaited = rw (O, n.outer, n.top) n.awaited;
-    allowed = A ∙ n.allowed;
-    queue = rw (k, empty_offline) Q;
-    count = (let d = n.done in omega (arith, G, D));
-    early = λ z. E ∙ n.early;
+    keys = record {
+      fresh = empty_fresh t.limit;
+      outer = rw O (n.outer ∙ sym (empty_outer t.limit));
+      empty = rw (O, n.outer) n.empty;
+      top = rw O (n.top ∙ sym (empty_top t.limit));
+      awaited = rw (O, n.outer, n.top) n.awaited;
+      allowed = A ∙ n.allowed;
+    };
+    levels = record { are_open = ap reverse V ∙ ap reverse n.levels ∙ sym empty_columns; columns = rw empty_columns tt };
+    queue = record { tokens = rw (k, empty_offline) Q; count = (let d = n.done in omega (arith, G, D)); early = λ z. E ∙ n.early };
     reach = J ∙ n.reach;
     taken = omega (arith, k);
     place = λ z. rw (J, n.reach) (start_mark t.text.chars);

@@ -25,7 +25,8 @@ use Rattle.yaml_scan.specs.Words.{HasWords}
 use Rattle.yaml_scan.specs.SourceOf.{source_of}
 use Rattle.yaml_scan.specs.Step.{front_of}
 use Rattle.yaml_scan.specs.inside.TextReads.{IsDecider, IsRead}
-use Rattle.yaml_scan.proofs.RunningStep.DecidedLaid.{read_place}
+use Rattle.yaml_scan.proofs.RunningStep.HeldBeside.{holds_as}
+use Rattle.yaml_scan.proofs.RunningStep.TwoLaid.{read_place}
 use Rattle.yaml_lexeme.specs.Lexeme.{Lexeme as yaml_lexeme_t}
 use Rattle.yaml_scan.specs.declared.kind.step_t.{step_t}
 use Rattle.yaml_scan.proofs.SessionCalls.AnswerWords.{read_has_words}
@@ -61,7 +62,7 @@ tokens_within e n m (y ∷ ys) xs q =
 -- there are few of them
 pub few_tokens : (H : List Laid) (n : ℕ) (s : Scanner) (ys : List group_t) → HoldsWith H n s ys → n < 2 ^ 65 → 0 < length (groups_tokens ys) → s.taken + length (groups_tokens ys) < 2 ^ 128
 few_tokens H n s ys h l z =
-    let a = tokens_within s.text.encoding s.layout.queue.early s.layout.queue.front ys (drop s.taken (offline H)) h.queue in
+    let a = tokens_within s.text.encoding s.layout.queue.early s.layout.queue.front ys (drop s.taken (offline H)) h.queue.tokens in
     let b = length-drop s.taken (offline H) in
     let c = four_tokens_a_step s.limit H h.is_history in
     let d = h.number in
@@ -69,25 +70,7 @@ few_tokens H n s ys h l z =
 
 -- THE SAME SCANNER WITH ANOTHER QUEUE
 queue_holds : (H : List Laid) (n : ℕ) (s : Scanner) (zs : List group_t) (q : queue_t) → q.done ≡ s.layout.queue.done → q.early ≡ s.layout.queue.early → q.front ≡ s.layout.queue.front → HoldsWith H n s zs → HoldsWith H n (with_queue s q) zs
-queue_holds H n s zs q D E F h = record {
-  text = h.text;
-  is_history = h.is_history;
-  number = h.number;
-  fresh = h.fresh;
-  levels = h.levels;
-  columns = h.columns;
-  outer = h.outer;
-  empty = h.empty;
-  top = h.top;
-  awaited = h.awaited;
-  allowed = h.allowed;
-  queue = rw (E, F) h.queue;
-  count = rw D h.count;
-  early = λ e. E ∙ h.early e;
-  reach = h.reach;
-  taken = h.taken;
-  place = h.place;
-}
+queue_holds H n s zs q D E F h = let k = h.queue in holds_as H n s (with_queue s q) h refl refl refl refl refl refl (record { tokens = rw (E, F) k.tokens; count = rw D k.count; early = λ e. E ∙ k.early e }) h.taken
 
 queue_advances : (H : List Laid) (s t : Scanner) (zs : List group_t) (q : queue_t) → q.done ≡ t.layout.queue.done → q.early ≡ t.layout.queue.early → q.front ≡ t.layout.queue.front → AdvancesWith H s t zs → AdvancesWith H s (with_queue t q) zs
 queue_advances H s t zs q D E F a = record {
@@ -128,13 +111,13 @@ module _ (H : List Laid) (s u : Scanner) (k : Kind) (y : group_t) (A : IsLaidAs 
       let c = length-append (group_tokens y) [] in omega arith
 
   pub done_there : s.made + 2 < 2 ^ 64 → u.layout.queue.done + 1 < 2 ^ 64
-  done_there l = let h = A.advances.holds in let a = h.count in let b = h.number in let c = length-append (groups_in u) (y ∷ []) in omega arith
+  done_there l = let h = A.advances.holds in let a = h.queue.count in let b = h.number in let c = length-append (groups_in u) (y ∷ []) in omega arith
 
   module _ (direct waits : Bool) (LAST : waits ≡ false → is_stream_end k ≡ false) (NONE : waits ≡ false → u.slots.awaited ≡ 0) (ALONE : waits ≡ false → groups_in u ≡ []) (t : Scanner) (took : List yaml_token_t → Type 0) (refuses : Type 0) where
     settled_all : waits ≡ false → AllSettled u (groups_in u ++ y ∷ []) (group_tokens y)
     settled_all w = record {
       awaited = NONE w;
-      early = A.advances.holds.early (ended_is s.limit H A.advances.lexeme ∙ ap is_stream_end A.kind ∙ LAST w);
+      early = A.advances.holds.queue.early (ended_is s.limit H A.advances.lexeme ∙ ap is_stream_end A.kind ∙ LAST w);
       tokens_are = rw (ALONE w) (sym (append-nil (group_tokens y)));
       no_end = group_no_end y (SAYS ∙ LAST w);
     }
@@ -149,19 +132,10 @@ module _ (H : List Laid) (s u : Scanner) (k : Kind) (y : group_t) (A : IsLaidAs 
         let S = settled_all w in
         let f : Empties u (groups_in u ++ y ∷ []) (set_queue u (one_done u.layout.queue) (u.taken + length tokens)) tokens = record {
           all = subst (λ (ts : List yaml_token_t). AllSettled u (groups_in u ++ y ∷ []) ts) (sym T) S;
-          text = refl;
-          refusal = refl;
-          near = refl;
-          limit = refl;
-          slots = refl;
-          allowed = refl;
-          levels = refl;
-          reach = refl;
-          made = refl;
+          same = refl;
           early = S.early;
           groups = ALONE w;
           done = rw (ALONE w) refl;
-          taken = refl;
         } in subst (λ (z : Scanner). Empties u (groups_in u ++ y ∷ []) z tokens) (sym e) f
 
     pub one_handed : (o : Result (Unit {0}) stop_t) → IsHandedOn direct waits u t y took refuses o → LaysTo H s t direct took refuses (made_by 1 o)
@@ -223,7 +197,7 @@ module _ (H : List Laid) (s u : Scanner) (direct waits : Bool) (y : group_t) (se
   done_both =
       let m = a.first.made in
       let h = a.second.holds in
-      let e = h.count in
+      let e = h.queue.count in
       let n = h.number in
       let few = B.few in
       let b = length-append (groups_in u) (y ∷ (z ∷ [])) in omega arith
@@ -251,23 +225,14 @@ module _ (H : List Laid) (s u : Scanner) (direct waits : Bool) (y : group_t) (se
     both_emptied straight k l K M e f =
         let S : AllSettled u both (k ++ l) = subst (λ (ts : List yaml_token_t). AllSettled u both ts) (sym (ap (λ (ts : List yaml_token_t). ts ++ l) K ∙ ap (λ (ts : List yaml_token_t). group_tokens y ++ ts) M)) (both_settled straight) in
         let F : v ≡ set_queue (set_queue u (one_done u.layout.queue) (u.taken + length k)) (one_done (one_done u.layout.queue)) (u.taken + length k + length l) = f ∙ ap (λ (x : Scanner). set_queue x (one_done x.layout.queue) (x.taken + length l)) e in
-        let n = length-append k l in
+        let n : u.taken + length k + length l ≡ u.taken + length (k ++ l) = (let a = length-append k l in omega arith) in
         let alone = ap (λ (ys : List group_t). length ys) (B.alone straight) in
         let w : Empties u both (set_queue (set_queue u (one_done u.layout.queue) (u.taken + length k)) (one_done (one_done u.layout.queue)) (u.taken + length k + length l)) (k ++ l) = record {
           all = S;
-          text = refl;
-          refusal = refl;
-          near = refl;
-          limit = refl;
-          slots = refl;
-          allowed = refl;
-          levels = refl;
-          reach = refl;
-          made = refl;
+          same = ap (λ (i : ℕ). set_queue u (one_done (one_done u.layout.queue)) i) n;
           early = B.early;
           groups = B.alone straight;
           done = rw (B.alone straight) (omega arith);
-          taken = omega arith;
         } in subst (λ (x : Scanner). Empties u both x (k ++ l)) (sym F) w
 
     both_handed : (k l : List yaml_token_t) → IsHanded direct waits u t y k → IsHanded direct waits t v z l → took (k ++ l) → LaysTo H s v direct took refuses (Ok 2)
@@ -378,7 +343,7 @@ module _ (H : List Laid) (s : Scanner) (r : step_t) (x : yaml_lexeme_t) (c : Can
   candidate_says t e = says_there H s r x c t e ∙ candidate_not_end r.kind candidate
 
   pub early_there : (q : queue_t) → q ≡ s.layout.queue → q.early ≡ 0
-  early_there q e = ap (λ (z : queue_t). z.early) e ∙ c.can.can.holds.early c.can.can.running
+  early_there q e = ap (λ (z : queue_t). z.early) e ∙ c.can.can.holds.queue.early c.can.can.running
 
   -- it has no text
   pub decider_len : (t : unnamed_yaml_token_t_data) → t ≡ w.token_data → said_len t ≡ 0
@@ -418,7 +383,7 @@ module _ (s : Scanner) (sparing : Bool) (r : step_t) (at : yaml_mark_t) where
 
 -- fewer groups were taken than steps can be made
 pub few_queued : (H : List Laid) (s : Scanner) → CanStep H s → s.layout.queue.done + 1 < 2 ^ 64
-few_queued H s c = let a = c.holds.count in let b = c.holds.number in let d = c.few_steps in omega arith
+few_queued H s c = let a = c.holds.queue.count in let b = c.holds.number in let d = c.few_steps in omega arith
 
 -- GROUPS THAT GO TO A SINK IF IT HAS ROOM
 -- as many tokens as are counted on, with no more texts
@@ -466,7 +431,7 @@ made_by_laid sparing H s t zs n (inr w) =
 
 made_of : (direct sparing : Bool) (m : Scanner) (zs : List group_t) (t : Scanner) (tokens : List yaml_token_t) → HandsOut direct sparing m zs t tokens → t.made ≡ m.made
 made_of direct sparing m zs t tokens (inl w) = ap (λ (z : Scanner). z.made) w.2
-made_of direct sparing m zs t tokens (inr w) = let e = w.1 in e.made
+made_of direct sparing m zs t tokens (inr w) = let e = w.1 in ap (λ (z : Scanner). z.made) e.same
 
 -- there is room for what is counted
 pub few_made : (H : List Laid) (s t : Scanner) (direct : Bool) (took : List yaml_token_t → Type 0) (refuses : Type 0) (n : ℕ) → LaysTo H s t direct took refuses (Ok n) → s.made + 2 < 2 ^ 64 → t.made + n < 2 ^ 64

@@ -11,8 +11,12 @@ use Rattle.yaml_lexeme.specs.Counted.{IsMarkOf}
 use Rattle.yaml_scan.specs.inside.StepParts.{read_step, after_read}
 use Rattle.yaml_scan.specs.Course.{ended}
 use Rattle.yaml_scan.specs.inside.Scanner.{Scanner}
+use Rattle.yaml_scan.specs.inside.Holding.{HoldsKeys, HoldsLevels, HoldsQueue}
 use Rattle.yaml_scan.specs.inside.Scanning.{Met}
 use Rattle.yaml_scan.specs.declared.groups.group_t.{group_t}
+use Rattle.yaml_scan.specs.declared.groups.queue_t.{queue_t}
+use Rattle.yaml_scan.specs.declared.depth.slots_t.{slots_t}
+use Rattle.yaml_scan.specs.declared.levels.layout_t.{layout_t}
 use Rattle.yaml_text.specs.Token.{token_of}
 use Rattle.yaml_scan.specs.Kind.{Kind, is_candidate_kind, is_stream_end}
 use Rattle.yaml_scan.specs.Source.{Source, Reading, Offence}
@@ -27,11 +31,10 @@ use Rattle.yaml_scan.specs.Falling.{AllLess, IsFalling}
 use Rattle.yaml_scan.specs.Levels.{greatest_level, greater_of}
 use Rattle.yaml_scan.specs.Order.{IsHistory, IsNotBefore, Follows}
 use Rattle.yaml_scan.specs.Groups.{end_at, offline}
-use Rattle.yaml_scan.specs.Settled.{before}
 use Rattle.yaml_scan.specs.Groups.Token.{BlockEnd}
 use Rattle.yaml_scan.specs.inside.Opened.{opened, is_new}
 use Rattle.yaml_scan.specs.inside.Slots.{Held, held, held_of, still_held, lost_held, outer_to, root_of, slot_after}
-use Rattle.yaml_scan.specs.inside.Slots.{completed_held, nested_outer, nested_top, is_level}
+use Rattle.yaml_scan.specs.inside.Slots.{completed_held, nested_outer, nested_top, is_level, empty_slots, lowest, step_of}
 use Rattle.yaml_scan.specs.Step.{Outcome, step, unless, stale, required, lost, start_at}
 use Rattle.yaml_scan.specs.Step.{lexeme_of, front_of, place_after}
 use Rattle.yaml_scan.specs.Step.Outcome.{Reads}
@@ -43,6 +46,7 @@ use Rattle.yaml_scan.proofs.History.HistoryOrder.{IsNotBefore-trans, to_start, t
 use Rattle.yaml_scan.proofs.TokenList.NeverRevised.{start_in}
 use Rattle.yaml_scan.proofs.History.KeyCandidates.{candidate-other, candidate-saved, candidate-kept, candidate-cleared, candidate_split}
 use Rattle.yaml_scan.proofs.History.LevelsFall.{open_columns-falls, falling_filter}
+use Rattle.yaml_scan.proofs.RunningQueue.QueueGroups.{front_free}
 use Rattle.yaml_scan.proofs.RunningStep.SlotTests.{completed_later, lost_later, root_is, outer_length}
 use Rattle.yaml_scan.proofs.RunningStep.TestsBefore.{flow_is, mark_is, later, Loses, is_none_some, is_none_map}
 use Rattle.yaml_scan.proofs.RunningStep.ScannerOneOn.{ends_are, levels_more, queue_more, fits, new_is, taken_more, allowed_more, outer_swept, top_swept, nested_outer_is, nested_top_is, candidate_is, allowed_of, at_depth, enters_below, reach_is}
@@ -167,6 +171,24 @@ opened_less limit H x n in_flow cs (Some c) e h f l a = go (is_new in_flow c.lex
     go false = a
 
 -- THE STEP
+-- the scanner with other slots and another layout, after what was read to a mark
+abbrev pub put_in : Scanner → slots_t → Bool → layout_t → yaml_mark_t → Scanner
+put_in s S a L reach = record {
+  alloc = s.alloc;
+  text = s.text;
+  refusal = s.refusal;
+  near = s.near;
+  limit = s.limit;
+  slots = S;
+  allowed = a;
+  layout = L;
+  reach = reach;
+  front = s.front;
+  there = s.there;
+  taken = s.taken;
+  made = s.made;
+}
+
 module _ (H : List Laid) (N : ℕ) (s : Scanner) {ys : List group_t} (r : HoldsWith H N s ys) (running : ended H ≡ false) (m : Met) (w : IsMet H s m) (in_flow : Bool) (FLOW : in_flow ≡ nat_lt 0 (vec_len s.slots.outer))
     (start : yaml_mark_t) (START : start ≡ start_at m.kind m.front) where
   abbrev S : Source
@@ -179,15 +201,15 @@ module _ (H : List Laid) (N : ℕ) (s : Scanner) {ys : List group_t} (r : HoldsW
   front_is = mark_is H N s r running in_flow FLOW m.front w.front
 
   pub levels_fall : IsFalling (reverse s.layout.levels.items)
-  levels_fall = rw r.levels (open_columns-falls s.limit H r.is_history)
+  levels_fall = rw r.levels.are_open (open_columns-falls s.limit H r.is_history)
 
   open_is : filter (stays in_flow m.kind start) (reverse s.layout.levels.items) ≡ kept_columns H m.kind start
   unfolding kept_columns
-  open_is = rw (flow_is H N s r running in_flow FLOW, r.levels) refl
+  open_is = rw (flow_is H N s r running in_flow FLOW, r.levels.are_open) refl
 
   kept_less : (k : Kind) (g : yaml_mark_t) → AllLess (length s.text.chars + 1) (kept_columns H k g)
   unfolding kept_columns
-  kept_less k g = less_filter (length s.text.chars + 1) _ (open_columns H) r.columns
+  kept_less k g = less_filter (length s.text.chars + 1) _ (open_columns H) r.levels.columns
 
   front_within : P ≤ length s.text.chars
   front_within = w.front.within
@@ -211,7 +233,7 @@ module _ (H : List Laid) (N : ℕ) (s : Scanner) {ys : List group_t} (r : HoldsW
       level_is = LV ∙ ap greatest_level l_is ∙ ap (λ (z : yaml_mark_t). greatest_level (kept_columns H m.kind z)) (START ∙ ap (start_at m.kind) front_is)
 
       depth_of : n ≡ depth H
-      depth_of = let e = ap (λ (l : List (Option Held)). length l) r.outer in let o = outer_length s.limit H (depth H) in omega arith
+      depth_of = let e = ap (λ (l : List (Option Held)). length l) r.keys.outer in let o = outer_length s.limit H (depth H) in omega arith
 
       pub kind_there : S.kind (nat_lt 0 n) P ≡ Some m.kind
       kind_there = rw depth_of w.kind
@@ -278,32 +300,38 @@ module _ (H : List Laid) (N : ℕ) (s : Scanner) {ys : List group_t} (r : HoldsW
 
         module _ (c : Option Held) (C : c ≡ completed_held m.kind s.limit start s.slots.top) where
           c_is : c ≡ option_map held_of (completed_by s.limit H X.kind X.start)
-          c_is = C ∙ (rw r.top (completed_later s.limit H r.is_history X.start (to_start follows) X.kind))
+          c_is = C ∙ (rw r.keys.top (completed_later s.limit H r.is_history X.start (to_start follows) X.kind))
 
           none_early : IsQueue s.text.encoding 0 s.layout.queue.front ys (drop s.taken (offline H))
-          none_early = subst (λ (k : ℕ). IsQueue s.text.encoding k s.layout.queue.front ys (drop s.taken (offline H))) (r.early running) r.queue
+          none_early = subst (λ (k : ℕ). IsQueue s.text.encoding k s.layout.queue.front ys (drop s.taken (offline H))) (r.queue.early running) r.queue.tokens
 
           pub fitting : Fitting c s.layout.queue.done ys
-          fitting = rw c_is (fits s.limit H X history s.taken r.taken s.text.encoding s.layout.queue.front ys none_early s.layout.queue.done r.count)
+          fitting = rw c_is (fits s.limit H X history s.taken r.taken s.text.encoding s.layout.queue.front ys none_early s.layout.queue.done r.queue.count)
 
-          -- the levels and the queue
-          pub levels_then : (l2 : List ℕ) → reverse l2 ≡ opened in_flow c X.kind X.start (reverse l) → reverse l2 ≡ open_columns (laid s.limit H X ∷ H)
-          levels_then l2 e = e ∙ (rw (flow_is H N s r running in_flow FLOW, c_is, l_is) (levels_more s.limit H X history))
+          -- the levels
+          pub levels_then : (l2 : List ℕ) → reverse l2 ≡ opened in_flow c X.kind X.start (reverse l) → HoldsLevels (length s.text.chars) (laid s.limit H X ∷ H) l2
+          levels_then l2 e = record {
+            are_open = e ∙ (rw (flow_is H N s r running in_flow FLOW, c_is, l_is) (levels_more s.limit H X history));
+            columns = subst (λ (z : List ℕ). AllLess (length s.text.chars + 1) z) (levels_more s.limit H X history)
+                (opened_less s.limit H X (length s.text.chars + 1) (nat_lt 0 (depth H)) (kept_columns H X.kind X.start) (completed_by s.limit H X.kind X.start) refl history follows
+                (rw START (start_less m.kind m.front (length s.text.chars) front_column)) (kept_less X.kind X.start));
+          }
 
-          pub columns_then : AllLess (length s.text.chars + 1) (open_columns (laid s.limit H X ∷ H))
-          columns_then = subst (λ (z : List ℕ). AllLess (length s.text.chars + 1) z) (levels_more s.limit H X history)
-              (opened_less s.limit H X (length s.text.chars + 1) (nat_lt 0 (depth H)) (kept_columns H X.kind X.start) (completed_by s.limit H X.kind X.start) refl history follows
-              (rw START (start_less m.kind m.front (length s.text.chars) front_column)) (kept_less X.kind X.start))
-
-          pub queue_then : (y : group_t) (n : ℕ) (f : yaml_mark_t) → ends_at n f ++ ends_at y.ends start ≡ map (λ z. BlockEnd (end_at m.kind m.front start z)) (filter (λ z. not (stays in_flow m.kind start z)) (reverse s.layout.levels.items))
+          -- the queue
+          pub queue_then : (q : queue_t) (y : group_t) (f : yaml_mark_t) → (is_stream_end m.kind ≡ false → q.early ≡ 0) → (0 < q.early → q.front ≡ f) → q.done ≡ s.layout.queue.done
+              → ends_at q.early f ++ ends_at y.ends start ≡ map (λ z. BlockEnd (end_at m.kind m.front start z)) (filter (λ z. not (stays in_flow m.kind start z)) (reverse s.layout.levels.items))
               → token_of y.token ≡ record { token_data = b.token_data; start_mark = start; end_mark = b.end_mark } → y.key ≡ false → y.opens ≡ opened_by in_flow c m.kind start.column (reverse l)
-              → (zs : List group_t) → zs ≡ completed_in in_flow c (reverse l) s.layout.queue.done ys ++ y ∷ [] → IsQueue s.text.encoding n f zs (drop s.taken (offline (laid s.limit H X ∷ H)))
-          queue_then y n f E Y K O zs V = rw V (rw (flow_is H N s r running in_flow FLOW, c_is, l_is) (queue_more s.limit H X history s.taken r.taken s.text.encoding s.layout.queue.front ys none_early s.layout.queue.done r.count y n f
-              (E ∙ ap (λ (f : Bool). map (λ z. BlockEnd (end_at m.kind m.front start z)) (filter (λ z. not (stays f m.kind start z)) (reverse s.layout.levels.items))) (flow_is H N s r running in_flow FLOW)
-              ∙ ap (λ (z : List ℕ). map (λ z. BlockEnd (end_at m.kind m.front start z)) (filter (λ z. not (stays (nat_lt 0 (depth H)) m.kind start z)) z)) r.levels ∙ ends_are s.limit H X history)
-              Y K (O ∙ (rw (flow_is H N s r running in_flow FLOW, c_is, l_is) refl))))
+              → (zs : List group_t) → zs ≡ completed_in in_flow c (reverse l) s.layout.queue.done ys ++ y ∷ [] → length zs ≡ length ys + 1 → HoldsQueue s.text.encoding s.taken (laid s.limit H X ∷ H) q zs
+          queue_then q y f Z F D E Y K O zs V G = record {
+            tokens = front_free s.text.encoding q.early f q.front zs (drop s.taken (offline (laid s.limit H X ∷ H))) F (rw V (rw (flow_is H N s r running in_flow FLOW, c_is, l_is) (queue_more s.limit H X history s.taken r.taken s.text.encoding s.layout.queue.front ys none_early s.layout.queue.done r.queue.count y q.early f
+                (E ∙ ap (λ (f : Bool). map (λ z. BlockEnd (end_at m.kind m.front start z)) (filter (λ z. not (stays f m.kind start z)) (reverse s.layout.levels.items))) (flow_is H N s r running in_flow FLOW)
+                ∙ ap (λ (z : List ℕ). map (λ z. BlockEnd (end_at m.kind m.front start z)) (filter (λ z. not (stays (nat_lt 0 (depth H)) m.kind start z)) z)) r.levels.are_open ∙ ends_are s.limit H X history)
+                Y K (O ∙ (rw (flow_is H N s r running in_flow FLOW, c_is, l_is) refl)))));
+            count = (let k = r.queue.count in omega arith);
+            early = λ e. Z (sym laid_ended ∙ e);
+          }
 
-          pub allowed_then : (none : Bool) → is_some c ≡ not none → (a : Bool) → ((d : ℕ) → in_flow ≡ nat_lt 0 d → a ≡ allows X.kind d none X.passed_break) → a ≡ allowed_after (laid s.limit H X ∷ H)
+          allowed_then : (none : Bool) → is_some c ≡ not none → (a : Bool) → ((d : ℕ) → in_flow ≡ nat_lt 0 d → a ≡ allows X.kind d none X.passed_break) → a ≡ allowed_after (laid s.limit H X ∷ H)
           allowed_then none V a e = e (depth H) (flow_is H N s r running in_flow FLOW) ∙ allowed_more s.limit H X history none (is_none_some c none V ∙ ap (λ (z : Option Held). is_none z) c_is ∙ is_none_map (completed_by s.limit H X.kind X.start))
 
           -- the slots
@@ -315,13 +343,13 @@ module _ (H : List Laid) (N : ℕ) (s : Scanner) {ys : List group_t} (r : HoldsW
             new_laid : new ≡ held_of (laid s.limit H X)
             new_laid = new_is s.limit H X history new (held_eq new _ _ _ (NA ∙ r.number) NS required_then)
 
-            root_then : (root : Option Held) (o : List (Option Held)) → o ≡ s.slots.outer.items → root ≡ root_of o top' → root ≡ settled_root s.limit H X history r.fresh a A
-            root_then root o O e = e ∙ ap (λ (z : List (Option Held)). root_of z top') (O ∙ r.outer) ∙ ap (λ (z : Option Held). root_of (outer_to s.limit H (depth H)) z)
-                (T ∙ ap (λ (z : Held). slot_after m.kind a z s.slots.top) new_laid ∙ ap (λ (z : Option Held). slot_after m.kind a (held_of (laid s.limit H X)) z) r.top)
+            root_then : (root : Option Held) (o : List (Option Held)) → o ≡ s.slots.outer.items → root ≡ root_of o top' → root ≡ settled_root s.limit H X history r.keys.fresh a A
+            root_then root o O e = e ∙ ap (λ (z : List (Option Held)). root_of z top') (O ∙ r.keys.outer) ∙ ap (λ (z : Option Held). root_of (outer_to s.limit H (depth H)) z)
+                (T ∙ ap (λ (z : Held). slot_after m.kind a z s.slots.top) new_laid ∙ ap (λ (z : Option Held). slot_after m.kind a (held_of (laid s.limit H X)) z) r.keys.top)
 
             module _ (root : Option Held) (o : List (Option Held)) (O : o ≡ s.slots.outer.items) (ROOT : root ≡ root_of o top') (lost' : Option Held) (LO : lost' ≡ lost_held s.limit b.reach root) where
-              agree : Agrees s.limit H X history r.fresh lost' (stale s.limit (laid s.limit H X ∷ H) b.reach)
-              agree = rw (LO, root_then root o O ROOT) (root_agrees s.limit H X history r.fresh a A)
+              agree : Agrees s.limit H X history r.keys.fresh lost' (stale s.limit (laid s.limit H X ∷ H) b.reach)
+              agree = rw (LO, root_then root o O ROOT) (root_agrees s.limit H X history r.keys.fresh a A)
 
               -- row 6
               pub row_stale : (f : Fault) → IsLost lost' b.reach f → Offends H s f
@@ -335,29 +363,35 @@ module _ (H : List Laid) (N : ℕ) (s : Scanner) {ys : List group_t} (r : HoldsW
               pub step_reads : lost' ≡ None → step S s.limit H ≡ Reads X
               step_reads e = step_kept ∙ (rw (agree.none e) refl)
 
-              pub fresh_then : lost' ≡ None → stale s.limit (laid s.limit H X ∷ H) (reach (laid s.limit H X ∷ H)) ≡ None
-              fresh_then e = ap (λ (z : yaml_mark_t). stale s.limit (laid s.limit H X ∷ H) z) (reach_is s.limit H X history) ∙ agree.none e
-
             swept : map (still_held s.limit b.reach) s.slots.outer.items ≡ outer_to s.limit (laid s.limit H X ∷ H) (depth H)
-            swept = rw r.outer (outer_swept s.limit H X history (depth H) (omega arith))
+            swept = rw r.keys.outer (outer_swept s.limit H X history (depth H) (omega arith))
 
             swept_top : still_held s.limit b.reach top' ≡ held s.limit (laid s.limit H X ∷ H) (depth H)
-            swept_top = ap (λ (z : Option Held). still_held s.limit b.reach z) (T ∙ ap (λ (z : Option Held). slot_after m.kind a new z) r.top) ∙ top_swept s.limit H X history a A new new_laid
+            swept_top = ap (λ (z : Option Held). still_held s.limit b.reach z) (T ∙ ap (λ (z : Option Held). slot_after m.kind a new z) r.keys.top) ∙ top_swept s.limit H X history a A new new_laid
 
-            pub outer_then : (o os : List (Option Held)) → os ≡ s.slots.outer.items → o ≡ nested_outer m.kind (map (still_held s.limit b.reach) os) (still_held s.limit b.reach top') → o ≡ outer_to s.limit (laid s.limit H X ∷ H) (depth (laid s.limit H X ∷ H))
-            outer_then o os O e = e ∙ (rw (O, swept, swept_top) (nested_outer_is s.limit H X history))
+            pub keys_then : lost_held s.limit b.reach (root_of s.slots.outer.items top') ≡ None → (S : slots_t) → S.outer.items ≡ nested_outer m.kind (map (still_held s.limit b.reach) s.slots.outer.items) (still_held s.limit b.reach top')
+                → S.top ≡ nested_top m.kind (map (still_held s.limit b.reach) s.slots.outer.items) (still_held s.limit b.reach top') → S.not_simple_keys ≡ empty_slots S.outer.items → S.awaited ≡ step_of (lowest (S.outer.items ++ S.top ∷ []))
+                → (none : Bool) → is_some c ≡ not none → (may : Bool) → ((d : ℕ) → in_flow ≡ nat_lt 0 d → may ≡ allows X.kind d none X.passed_break) → HoldsKeys s.limit (laid s.limit H X ∷ H) S may
+            keys_then lost S O T E W none V may e = record {
+              fresh = ap (λ (z : yaml_mark_t). stale s.limit (laid s.limit H X ∷ H) z) (reach_is s.limit H X history) ∙ (let v = agree (root_of s.slots.outer.items top') s.slots.outer.items refl refl _ refl in v.none lost);
+              outer = O ∙ (rw (swept, swept_top) (nested_outer_is s.limit H X history));
+              empty = E;
+              top = T ∙ (rw (swept, swept_top) (nested_top_is s.limit H X history));
+              awaited = W;
+              allowed = allowed_then none V may e;
+            }
 
-            pub top_then : (o : Option Held) (os : List (Option Held)) → os ≡ s.slots.outer.items → o ≡ nested_top m.kind (map (still_held s.limit b.reach) os) (still_held s.limit b.reach top') → o ≡ held s.limit (laid s.limit H X ∷ H) (depth (laid s.limit H X ∷ H))
-            top_then o os O e = e ∙ (rw (O, swept, swept_top) (nested_top_is s.limit H X history))
-
-        pub number_then : N + 1 ≡ length (laid s.limit H X ∷ H) + 2
-        number_then = let n = r.number in omega arith
-
-        pub early_then : (n : ℕ) → (is_stream_end m.kind ≡ false → n ≡ 0) → ended (laid s.limit H X ∷ H) ≡ false → n ≡ 0
-        early_then n f e = f (sym laid_ended ∙ e)
-
-        pub taken_then : s.taken ≤ length (before s.limit (laid s.limit H X ∷ H))
-        taken_then = taken_more s.limit H X history s.taken r.taken
-
-        pub reach_then : b.reach ≡ reach (laid s.limit H X ∷ H)
-        reach_then = sym (reach_is s.limit H X history)
+        -- all that the scanner holds
+        pub holds_then : (S : slots_t) (may : Bool) (L : layout_t) (zs : List group_t) → HoldsKeys s.limit (laid s.limit H X ∷ H) S may → HoldsLevels (length s.text.chars) (laid s.limit H X ∷ H) L.levels.items
+            → HoldsQueue s.text.encoding s.taken (laid s.limit H X ∷ H) L.queue zs → HoldsWith (laid s.limit H X ∷ H) (N + 1) (put_in s S may L b.reach) zs
+        holds_then S may L zs keys levels queue = record {
+          text = r.text;
+          is_history = history;
+          number = (let n = r.number in omega arith);
+          keys = keys;
+          levels = levels;
+          queue = queue;
+          reach = sym (reach_is s.limit H X history);
+          taken = taken_more s.limit H X history s.taken r.taken;
+          place = place_then;
+        }

@@ -18,12 +18,12 @@ use Rattle.yaml_scan.specs.Levels.{greatest_level, laid, stays}
 use Rattle.yaml_scan.specs.Settled.{before}
 use Rattle.yaml_scan.specs.inside.TextReads.{IsRead}
 use Rattle.yaml_scan.specs.inside.Scanning.{AdvancesTwice, AdvancesWith, Beside, CanRead, CanStep, Comes, Ends, Halts, HasRead, HasRoom, Holds, IsLaidBy, IsMet, IsNewHeld, IsReadIn, IsStep, Makes, Needs, Refuses, Same, Stays}
-use Rattle.yaml_scan.specs.inside.Scanning.{allowed_in, at_there, counted, groups_in, met_in}
+use Rattle.yaml_scan.specs.inside.Scanning.{allowed_in, at_there, counted, groups_in, made_to, met_in}
 use Rattle.yaml_scan.specs.Token.{yaml_token_t}
 use Rattle.yaml_scan.specs.inside.Handed.{HandsOut, LaysTo, StepsTo}
 use Rattle.std.proofs.lemmas.Bool.{false≢true}
 use Rattle.std.proofs.lemmas.List.{reverse-reverse}
-use Rattle.yaml_scan.proofs.RunningStep.RoomMade.{with_room}
+use Rattle.yaml_scan.proofs.RunningStep.HeldBeside.{holds_as, holds_beside}
 use Rattle.yaml_scan.proofs.RunningStep.StepLaid.{kind_there, level_within}
 
 pub stays_same : (s t : Scanner) → Beside s t → Stays s t
@@ -35,17 +35,16 @@ halts_stays s t e = let p = e.same in record { limit = p.limit; taken = p.taken;
 halts_on : (s t u : Scanner) → Stays s t → Halts t u → Halts s u
 halts_on s t u e h = let p = e.same in record { limit = h.limit ∙ p.limit; taken = h.taken ∙ p.taken; done = h.done ∙ p.done; made = h.made ∙ e.made; reach = h.reach ∙ e.reach }
 
+pub same_trans : (s t u : Scanner) → Same s t → Same t u → Same s u
+same_trans s t u a b = record { text = b.text ∙ a.text; refusal = b.refusal ∙ a.refusal; near = b.near ∙ a.near; limit = b.limit ∙ a.limit; taken = b.taken ∙ a.taken; done = b.done ∙ a.done }
+
 pub stays_on : (s t u : Scanner) → Stays s t → Stays t u → Stays s u
-stays_on s t u a b = let p = a.same in let q = b.same in record {
-  same = record { text = q.text ∙ p.text; refusal = q.refusal ∙ p.refusal; near = q.near ∙ p.near; limit = q.limit ∙ p.limit; taken = q.taken ∙ p.taken; done = q.done ∙ p.done };
-  made = b.made ∙ a.made;
-  reach = b.reach ∙ a.reach;
-}
+stays_on s t u a b = record { same = same_trans s t u a.same b.same; made = b.made ∙ a.made; reach = b.reach ∙ a.reach }
 
 -- READING
 pub read_in : (H : List Laid) (s : Scanner) (r : step_t) (t : Scanner) → CanRead H s r → CanRead H (at_there s t) r
 read_in H s r t c = let h = c.can.holds in let e = c.met in let w = c.is_new in record {
-  can = record { holds = with_room H (s.made + 1) s (at_there s t) h refl refl refl refl refl refl refl refl refl refl refl refl refl refl; running = c.can.running; small = c.can.small; few_steps = c.can.few_steps; near = c.can.near };
+  can = record { holds = holds_as H (s.made + 1) s (at_there s t) h refl refl refl refl refl refl h.queue h.taken; running = c.can.running; small = c.can.small; few_steps = c.can.few_steps; near = c.can.near };
   met = record { front = e.front; allowed = e.allowed; kind = e.kind; step = e.step };
   is_new = record { flow = w.flow; is_greatest = w.is_greatest; step = w.step; start = w.start; required = w.required };
   depth = c.depth;
@@ -80,9 +79,6 @@ ends_from H s t e f w = let q = e.same in (w.0, rw (← q.text, ← q.refusal, �
 refuses_from : (H : List Laid) (s t u : Scanner) (stop : stop_t) → Stays s t → Refuses H t u stop → Refuses H s u stop
 refuses_from H s t u stop e w = (elim w.0 [ inl m ↦ inl m | inr v ↦ inr (ends_from H s t e _ v) ], halts_on s t u e w.1)
 
-same_from : (s t u : Scanner) → Stays s t → Same t u → Same s u
-same_from s t u e q = let p = e.same in record { text = q.text ∙ p.text; refusal = q.refusal ∙ p.refusal; near = q.near ∙ p.near; limit = q.limit ∙ p.limit; taken = q.taken ∙ p.taken; done = q.done ∙ p.done }
-
 advances_from : (H : List Laid) (s t u : Scanner) (zs : List group_t) → Stays s t → AdvancesWith H t u zs → AdvancesWith H s u zs
 advances_from H s t u zs e a = let q = e.same in record {
   lexeme = a.lexeme;
@@ -90,7 +86,7 @@ advances_from H s t u zs e a = let q = e.same in record {
   holds = rw (← q.limit, ← e.made) a.holds;
   index = rw (← q.text) a.index;
   within = rw (← q.text) a.within;
-  same = same_from s t u e a.same;
+  same = same_trans s t u e.same a.same;
   made = a.made ∙ e.made;
 }
 
@@ -164,7 +160,7 @@ pub ready : (H : List Laid) (s t : Scanner) (in_flow : Bool) (k : Kind) → Come
 ready H s t in_flow k w m b r room K A new d =
     let c = w.passes.can in
     let can : CanStep H t = record {
-      holds = subst (λ (z : ℕ). Holds H (z + 1) t) (sym b.made) (with_room H (s.made + 1) s t c.holds b.text b.limit b.outer b.empty b.top b.awaited b.allowed b.levels b.groups b.done b.early b.queue_front b.reach b.taken);
+      holds = subst (λ (z : ℕ). Holds H (z + 1) t) (sym b.made) (holds_beside H (s.made + 1) s t b c.holds);
       running = c.running;
       small = rw b.text c.small;
       few_steps = rw b.made c.few_steps;
@@ -189,23 +185,6 @@ ready H s t in_flow k w m b r room K A new d =
     }
 
 -- THE END
-abbrev pub made_to : Scanner → ℕ → Scanner
-made_to s m = record {
-  alloc = s.alloc;
-  text = s.text;
-  refusal = s.refusal;
-  near = s.near;
-  limit = s.limit;
-  slots = s.slots;
-  allowed = s.allowed;
-  layout = s.layout;
-  reach = s.reach;
-  front = s.front;
-  there = s.there;
-  taken = s.taken;
-  made = m;
-}
-
 abbrev pub counted_by : Scanner → ℕ → Scanner
 counted_by s n = made_to s (s.made + n)
 
@@ -224,19 +203,10 @@ hands_all direct sparing m zs t tokens n (inr w) = let e = w.1 in inr (
   w.0,
   record {
     all = (let a = e.all in record { awaited = a.awaited; early = a.early; tokens_are = a.tokens_are; no_end = a.no_end });
-    text = e.text;
-    refusal = e.refusal;
-    near = e.near;
-    limit = e.limit;
-    slots = e.slots;
-    allowed = e.allowed;
-    levels = e.levels;
-    reach = e.reach;
-    made = ap (λ (z : ℕ). z + n) e.made;
+    same = ap (λ (z : Scanner). counted_by z n) e.same;
     early = e.early;
     groups = e.groups;
     done = e.done;
-    taken = e.taken;
   },
 )
 

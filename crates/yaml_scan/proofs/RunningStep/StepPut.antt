@@ -1,8 +1,7 @@
 -- A lexeme that was read is laid if levels, queue and slots change as its definition says.
-use Rattle.std.proofs.Common.{◌≡◌, ℕ, ◌+◌, ◌<◌, not, Bool, false, List, [], ◌∷◌, ◌++◌, reverse, map, filter, length, Option, vec_len, refl, ap, sym, ◌∙◌, arith}
+use Rattle.std.proofs.Common.{◌≡◌, ℕ, ◌+◌, ◌<◌, not, Bool, false, List, [], ◌∷◌, ◌++◌, reverse, map, filter, length, Option, vec_len, refl, ap, sym, ◌∙◌}
 use Rattle.std.specs.Option.{is_some}
 use Rattle.std.specs.Prelude.{nat_lt}
-use Rattle.yaml_text.specs.declared.types.yaml_mark_t.{yaml_mark_t}
 use Rattle.yaml_text.specs.Token.{token_of}
 use Rattle.yaml_lexeme.specs.Lexeme.{Lexeme as yaml_lexeme_t}
 use Rattle.yaml_scan.specs.declared.groups.group_t.{group_t}
@@ -22,42 +21,21 @@ use Rattle.yaml_scan.specs.inside.Handed.{IsLaidAs}
 use Rattle.yaml_scan.specs.inside.Scanning.{CanPut}
 use Rattle.yaml_scan.specs.inside.Slots.{Held, completed_held, still_held, slot_after, nested_outer, nested_top}
 use Rattle.yaml_scan.specs.inside.Slots.{empty_slots, lowest, step_of}
-use Rattle.yaml_scan.proofs.RunningQueue.QueueGroups.{front_free}
-use Rattle.yaml_scan.proofs.RunningStep.StepLaid.{history, place_within, index_is, place_then, levels_then, columns_then, queue_then, allowed_then, step_reads, fresh_then, outer_then, top_then, taken_then, reach_then, number_then, early_then}
-
--- the scanner with other slots and another layout, after what was read to a mark
-abbrev pub put_in : Scanner → slots_t → Bool → layout_t → yaml_mark_t → Scanner
-put_in s S a L reach = record {
-  alloc = s.alloc;
-  text = s.text;
-  refusal = s.refusal;
-  near = s.near;
-  limit = s.limit;
-  slots = S;
-  allowed = a;
-  layout = L;
-  reach = reach;
-  front = s.front;
-  there = s.there;
-  taken = s.taken;
-  made = s.made;
-}
+use Rattle.yaml_scan.proofs.RunningStep.StepLaid.{put_in, place_within, index_is, levels_then, queue_then, keys_then, step_reads, holds_then}
 
 -- These are the slots, whether a key is allowed, the layout and the groups after the lexeme x, of which `new` is kept. The groups
 -- before it are ys.
 pub record IsPut (s : Scanner) (ys : List group_t) (m : Met) (in_flow : Bool) (new : Held) (x : yaml_lexeme_t) (S : slots_t) (a : Bool) (L : layout_t) (zs : List group_t) : Type 0 where
   pub kept : List ℕ
   pub kept_is : reverse kept ≡ filter (stays in_flow m.kind new.start) (reverse s.layout.levels.items)
-  pub early : ℕ
-  pub early_none : is_stream_end m.kind ≡ false → early ≡ 0
-  pub early_is : L.queue.early ≡ early
-  pub front : 0 < early → L.queue.front ≡ m.front
+  pub early : is_stream_end m.kind ≡ false → L.queue.early ≡ 0
+  pub front : 0 < L.queue.early → L.queue.front ≡ m.front
   pub completed : Option Held
   pub completed_is : completed ≡ completed_held m.kind s.limit new.start s.slots.top
   pub none : Bool
   pub none_is : is_some completed ≡ not none
   pub group : group_t
-  pub ends_are : ends_at early m.front ++ ends_at group.ends new.start
+  pub ends_are : ends_at L.queue.early m.front ++ ends_at group.ends new.start
       ≡ map (λ c. BlockEnd (end_at m.kind m.front new.start c)) (filter (λ c. not (stays in_flow m.kind new.start c)) (reverse s.layout.levels.items))
   pub token : token_of group.token ≡ record { token_data = x.token_data; start_mark = new.start; end_mark = x.end_mark }
   pub key : group.key ≡ false
@@ -79,25 +57,10 @@ put_advances H s ys m in_flow new x p S a L zs q = record {
   advances = record {
     lexeme = _;
     step = step_reads H (s.made + 1) s p.can.holds p.can.running m p.can.met in_flow p.is_new.flow new.start p.is_new.start q.kept q.kept_is p.level (p.is_new.is_greatest ∙ ap greatest_level (sym q.kept_is)) (vec_len s.slots.outer) refl x p.read q.completed q.completed_is new p.is_new.step refl p.is_new.required m.allowed p.can.met.allowed _ refl _ s.slots.outer.items refl refl _ refl p.kept;
-    holds = record {
-      text = p.can.holds.text;
-      is_history = history H (s.made + 1) s p.can.holds p.can.running m p.can.met in_flow p.is_new.flow new.start p.is_new.start q.kept q.kept_is p.level (p.is_new.is_greatest ∙ ap greatest_level (sym q.kept_is)) (vec_len s.slots.outer) refl x p.read;
-      number = number_then H (s.made + 1) s p.can.holds p.can.running m p.can.met in_flow p.is_new.flow new.start p.is_new.start q.kept q.kept_is p.level (p.is_new.is_greatest ∙ ap greatest_level (sym q.kept_is)) (vec_len s.slots.outer) refl x p.read;
-      fresh = fresh_then H (s.made + 1) s p.can.holds p.can.running m p.can.met in_flow p.is_new.flow new.start p.is_new.start q.kept q.kept_is p.level (p.is_new.is_greatest ∙ ap greatest_level (sym q.kept_is)) (vec_len s.slots.outer) refl x p.read q.completed q.completed_is new p.is_new.step refl p.is_new.required m.allowed p.can.met.allowed _ refl _ s.slots.outer.items refl refl _ refl p.kept;
-      levels = levels_then H (s.made + 1) s p.can.holds p.can.running m p.can.met in_flow p.is_new.flow new.start p.is_new.start q.kept q.kept_is p.level (p.is_new.is_greatest ∙ ap greatest_level (sym q.kept_is)) (vec_len s.slots.outer) refl x p.read q.completed q.completed_is L.levels.items q.levels;
-      columns = columns_then H (s.made + 1) s p.can.holds p.can.running m p.can.met in_flow p.is_new.flow new.start p.is_new.start q.kept q.kept_is p.level (p.is_new.is_greatest ∙ ap greatest_level (sym q.kept_is)) (vec_len s.slots.outer) refl x p.read q.completed q.completed_is;
-      outer = outer_then H (s.made + 1) s p.can.holds p.can.running m p.can.met in_flow p.is_new.flow new.start p.is_new.start q.kept q.kept_is p.level (p.is_new.is_greatest ∙ ap greatest_level (sym q.kept_is)) (vec_len s.slots.outer) refl x p.read q.completed q.completed_is new p.is_new.step refl p.is_new.required m.allowed p.can.met.allowed _ refl S.outer.items s.slots.outer.items refl q.outer;
-      empty = q.empty;
-      top = top_then H (s.made + 1) s p.can.holds p.can.running m p.can.met in_flow p.is_new.flow new.start p.is_new.start q.kept q.kept_is p.level (p.is_new.is_greatest ∙ ap greatest_level (sym q.kept_is)) (vec_len s.slots.outer) refl x p.read q.completed q.completed_is new p.is_new.step refl p.is_new.required m.allowed p.can.met.allowed _ refl _ s.slots.outer.items refl q.top;
-      awaited = q.awaited;
-      allowed = allowed_then H (s.made + 1) s p.can.holds p.can.running m p.can.met in_flow p.is_new.flow new.start p.is_new.start q.kept q.kept_is p.level (p.is_new.is_greatest ∙ ap greatest_level (sym q.kept_is)) (vec_len s.slots.outer) refl x p.read q.completed q.completed_is q.none q.none_is a q.allows;
-      queue = rw q.early_is (front_free s.text.encoding q.early m.front L.queue.front zs _ q.front (queue_then H (s.made + 1) s p.can.holds p.can.running m p.can.met in_flow p.is_new.flow new.start p.is_new.start q.kept q.kept_is p.level (p.is_new.is_greatest ∙ ap greatest_level (sym q.kept_is)) (vec_len s.slots.outer) refl x p.read q.completed q.completed_is _ q.early m.front q.ends_are q.token q.key q.opens zs q.groups));
-      count = (let d = q.done in let l = q.long in let z = p.can.holds.count in omega arith);
-      early = early_then H (s.made + 1) s p.can.holds p.can.running m p.can.met in_flow p.is_new.flow new.start p.is_new.start q.kept q.kept_is p.level (p.is_new.is_greatest ∙ ap greatest_level (sym q.kept_is)) (vec_len s.slots.outer) refl x p.read _ (λ z. q.early_is ∙ q.early_none z);
-      reach = reach_then H (s.made + 1) s p.can.holds p.can.running m p.can.met in_flow p.is_new.flow new.start p.is_new.start q.kept q.kept_is p.level (p.is_new.is_greatest ∙ ap greatest_level (sym q.kept_is)) (vec_len s.slots.outer) refl x p.read;
-      taken = taken_then H (s.made + 1) s p.can.holds p.can.running m p.can.met in_flow p.is_new.flow new.start p.is_new.start q.kept q.kept_is p.level (p.is_new.is_greatest ∙ ap greatest_level (sym q.kept_is)) (vec_len s.slots.outer) refl x p.read;
-      place = place_then H (s.made + 1) s p.can.holds p.can.running m p.can.met in_flow p.is_new.flow new.start p.is_new.start q.kept q.kept_is p.level (p.is_new.is_greatest ∙ ap greatest_level (sym q.kept_is)) (vec_len s.slots.outer) refl x p.read;
-    };
+    holds = holds_then H (s.made + 1) s p.can.holds p.can.running m p.can.met in_flow p.is_new.flow new.start p.is_new.start q.kept q.kept_is p.level (p.is_new.is_greatest ∙ ap greatest_level (sym q.kept_is)) (vec_len s.slots.outer) refl x p.read S a L zs
+        (keys_then H (s.made + 1) s p.can.holds p.can.running m p.can.met in_flow p.is_new.flow new.start p.is_new.start q.kept q.kept_is p.level (p.is_new.is_greatest ∙ ap greatest_level (sym q.kept_is)) (vec_len s.slots.outer) refl x p.read q.completed q.completed_is new p.is_new.step refl p.is_new.required m.allowed p.can.met.allowed _ refl p.kept S q.outer q.top q.empty q.awaited q.none q.none_is a q.allows)
+        (levels_then H (s.made + 1) s p.can.holds p.can.running m p.can.met in_flow p.is_new.flow new.start p.is_new.start q.kept q.kept_is p.level (p.is_new.is_greatest ∙ ap greatest_level (sym q.kept_is)) (vec_len s.slots.outer) refl x p.read q.completed q.completed_is L.levels.items q.levels)
+        (queue_then H (s.made + 1) s p.can.holds p.can.running m p.can.met in_flow p.is_new.flow new.start p.is_new.start q.kept q.kept_is p.level (p.is_new.is_greatest ∙ ap greatest_level (sym q.kept_is)) (vec_len s.slots.outer) refl x p.read q.completed q.completed_is L.queue q.group m.front q.early q.front q.done q.ends_are q.token q.key q.opens zs q.groups q.long);
     index = index_is H (s.made + 1) s p.can.holds p.can.running m p.can.met in_flow p.is_new.flow new.start p.is_new.start q.kept q.kept_is p.level (p.is_new.is_greatest ∙ ap greatest_level (sym q.kept_is)) (vec_len s.slots.outer) refl x p.read;
     within = place_within H (s.made + 1) s p.can.holds p.can.running m p.can.met in_flow p.is_new.flow new.start p.is_new.start q.kept q.kept_is p.level (p.is_new.is_greatest ∙ ap greatest_level (sym q.kept_is)) (vec_len s.slots.outer) refl x p.read;
     same = record { text = refl; refusal = refl; near = refl; limit = refl; taken = refl; done = q.done };

@@ -22,10 +22,10 @@ use Rattle.yaml_scan.specs.inside.StepFaults.{IsLost, IsRefused}
 use Rattle.yaml_scan.specs.inside.Slots.{Held, held, completed_held, lost_held, root_of, slot_after, is_level}
 use Rattle.yaml_scan.specs.inside.TextReads.{IsRead, IsOffence}
 use Rattle.yaml_scan.specs.inside.Scanning.{CanLayAll, CanPut, CanRead, CanStep, Ends, Holds, IsMet, IsNearOf, IsNewHeld, Offends, Passes, Stays}
-use Rattle.yaml_scan.specs.inside.Scanning.{allowed_in, groups_in, cleared_in, lost_after, met_in, refused_in}
+use Rattle.yaml_scan.specs.inside.Scanning.{allowed_in, at_marks, groups_in, cleared_in, lost_after, met_in, refused_in}
 use Rattle.yaml_scan.proofs.History.LevelsFall.{open_columns-falls}
 use Rattle.yaml_scan.proofs.RunningCalls.NextOfInput.{ends_near, reads_near}
-use Rattle.yaml_scan.proofs.RunningStep.RoomMade.{with_room}
+use Rattle.yaml_scan.proofs.RunningStep.HeldBeside.{holds_as}
 use Rattle.yaml_scan.proofs.RunningStep.StepLaid.{index_is, place_within, row_offence, row_stale, step_reads}
 use Rattle.yaml_scan.proofs.RunningStep.TestsBefore.{allowed_is, front_mark, kind_is, root_held, row_clears, row_lost, row_met, row_no_kind, row_refused}
 use Rattle.yaml_scan.proofs.Texts.TextPlaces.{index_within}
@@ -51,7 +51,7 @@ front_line H s small i =
     let t = text_sums s.text.chars (front_of (source_of s.text.chars) H) i.within in let w = i.within in omega arith
 
 pub falls_in : (H : List Laid) (n : ℕ) (s : Scanner) → Holds H n s → IsFalling (reverse s.layout.levels.items)
-falls_in H n s r = rw r.levels (open_columns-falls s.limit H r.is_history)
+falls_in H n s r = rw r.levels.are_open (open_columns-falls s.limit H r.is_history)
 
 -- the candidate that is lost at the end of the gap
 pub lost_in_gap : (H : List Laid) (s : Scanner) → CanStep H s → IsMarkOf s.text.chars s.front (front_of (source_of s.text.chars) H) → (h : Held)
@@ -139,24 +139,10 @@ lost_again s q r k a b c there m t root R l L =
 
 -- THE GAP
 abbrev pub at_front : Scanner → yaml_mark_t → Scanner
-at_front s m = record {
-  alloc = s.alloc;
-  text = s.text;
-  refusal = s.refusal;
-  near = s.near;
-  limit = s.limit;
-  slots = s.slots;
-  allowed = s.allowed;
-  layout = s.layout;
-  reach = s.reach;
-  front = m;
-  there = s.there;
-  taken = s.taken;
-  made = s.made;
-}
+at_front s m = at_marks s m s.there
 
 pub front_can : (H : List Laid) (s : Scanner) (m : yaml_mark_t) → CanStep H s → CanStep H (at_front s m)
-front_can H s m c = record { holds = with_room H (s.made + 1) s (at_front s m) c.holds refl refl refl refl refl refl refl refl refl refl refl refl refl refl; running = c.running; small = c.small; few_steps = c.few_steps; near = c.near }
+front_can H s m c = let h = c.holds in record { holds = holds_as H (s.made + 1) s (at_front s m) h refl refl refl refl refl refl h.queue h.taken; running = c.running; small = c.small; few_steps = c.few_steps; near = c.near }
 
 pub front_stays : (s : Scanner) (m : yaml_mark_t) → Stays s (at_front s m)
 front_stays s m = record { same = record { text = refl; refusal = refl; near = refl; limit = refl; taken = refl; done = refl }; made = refl; reach = refl }

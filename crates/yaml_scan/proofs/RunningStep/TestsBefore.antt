@@ -61,13 +61,13 @@ start_index k g = go (Rattle.yaml_scan.specs.Kind.is_stream_end k) (nat_eq g.col
 
 module _ (H : List Laid) (n : ℕ) (s : Scanner) {ys : List group_t} (r : HoldsWith H n s ys) (running : ended H ≡ false) (in_flow : Bool) (FLOW : in_flow ≡ nat_lt 0 (vec_len s.slots.outer)) where
   pub flow_is : in_flow ≡ nat_lt 0 (depth H)
-  flow_is = let e = ap (λ (l : List (Option Held)). length l) r.outer in let o = outer_length s.limit H (depth H) in let n : vec_len s.slots.outer ≡ depth H = omega arith in FLOW ∙ (rw n refl)
+  flow_is = let e = ap (λ (l : List (Option Held)). length l) r.keys.outer in let o = outer_length s.limit H (depth H) in let n : vec_len s.slots.outer ≡ depth H = omega arith in FLOW ∙ (rw n refl)
 
   block_is : not in_flow ≡ nat_eq (depth H) 0
   block_is = ap (λ (b : Bool). not b) flow_is ∙ zero_test (depth H)
 
   pub root_held : (root : Option Held) (l : List (Option Held)) → l ≡ s.slots.outer.items → root ≡ root_of l s.slots.top → root ≡ held s.limit H 0
-  root_held root l e f = f ∙ (rw (e, r.outer) (root_is s.limit H (depth H) s.slots.top (λ z. r.top ∙ ap (λ (n : ℕ). held s.limit H n) z)))
+  root_held root l e f = f ∙ (rw (e, r.keys.outer) (root_is s.limit H (depth H) s.slots.top (λ z. r.keys.top ∙ ap (λ (n : ℕ). held s.limit H n) z)))
 
   abbrev S : Source
   S = source_of s.text.chars
@@ -77,7 +77,7 @@ module _ (H : List Laid) (n : ℕ) (s : Scanner) {ys : List group_t} (r : HoldsW
 
   -- where the gap ends
   pub front_mark : (g : yaml_mark_t) → IsMarkOf s.text.chars g (S.gap in_flow s.allowed (place_after H)) → IsMarkOf s.text.chars g P
-  front_mark g i = subst (λ (f : Bool). IsMarkOf s.text.chars g (S.gap f (allowed_after H) (place_after H))) flow_is (subst (λ (a : Bool). IsMarkOf s.text.chars g (S.gap in_flow a (place_after H))) r.allowed i)
+  front_mark g i = subst (λ (f : Bool). IsMarkOf s.text.chars g (S.gap f (allowed_after H) (place_after H))) flow_is (subst (λ (a : Bool). IsMarkOf s.text.chars g (S.gap in_flow a (place_after H))) r.keys.allowed i)
 
   module _ (g : yaml_mark_t) (G : IsMarkOf s.text.chars g P) where
     pub mark_is : g ≡ S.mark P
@@ -120,7 +120,7 @@ module _ (H : List Laid) (n : ℕ) (s : Scanner) {ys : List group_t} (r : HoldsW
 
     -- row 1
     stale_is : (root l : Option Held) → root ≡ held s.limit H 0 → l ≡ lost_held s.limit g root → l ≡ option_map held_of (stale s.limit H g)
-    stale_is root l e k = k ∙ (rw e (lost_later s.limit H r.is_history g later r.fresh))
+    stale_is root l e k = k ∙ (rw e (lost_later s.limit H r.is_history g later r.keys.fresh))
 
     pub row_lost : (root l : Option Held) (f : Fault) → root ≡ held s.limit H 0 → l ≡ lost_held s.limit g root → IsLost l g f → Offends H s f
     row_lost root l f e k q = let w = loses (stale s.limit H g) l g P _ f (stale_is root l e k) q in
@@ -140,14 +140,14 @@ module _ (H : List Laid) (n : ℕ) (s : Scanner) {ys : List group_t} (r : HoldsW
       module _ (kind : Kind) (some : o ≡ Some kind) (a : Bool) (A : a ≡ (s.allowed || (not in_flow && nat_lt s.reach.line g.line))) where
         pub allowed_is : a ≡ allowed H g
         unfolding allowed
-        allowed_is = A ∙ (rw (r.allowed, r.reach, block_is) refl)
+        allowed_is = A ∙ (rw (r.keys.allowed, r.reach, block_is) refl)
 
         step_kind : step S s.limit H ≡ kind_from g (Some kind)
         step_kind = row_not_lost root l e k q ∙ ap (λ (x : Option Kind). kind_from g x) (sym kind_is ∙ some)
 
         module _ (c : Option Held) (C : c ≡ completed_held kind s.limit g s.slots.top) (none : Bool) (N : is_some c ≡ not none) where
           none_is : none ≡ is_none (completed_by s.limit H kind g)
-          none_is = is_none_some c none N ∙ ap (λ (x : Option Held). is_none x) (C ∙ (rw r.top (completed_later s.limit H r.is_history g later kind))) ∙ is_none_map (completed_by s.limit H kind g)
+          none_is = is_none_some c none N ∙ ap (λ (x : Option Held). is_none x) (C ∙ (rw r.keys.top (completed_later s.limit H r.is_history g later kind))) ∙ is_none_map (completed_by s.limit H kind g)
 
           refused_is : (if not in_flow && not a then problem_of kind none else None) ≡ refused s.limit H kind g
           unfolding refused
@@ -173,7 +173,7 @@ module _ (H : List Laid) (n : ℕ) (s : Scanner) {ys : List group_t} (r : HoldsW
 
           clears_is : (d : Option Held) → d ≡ (if replaces kind a && not in_flow then needed s.limit g s.slots.top else None) → d ≡ option_map held_of (clears s.limit H kind g)
           unfolding clears
-          clears_is d D = D ∙ (rw (allowed_is, block_is, r.top) (go (replaces kind (allowed H g)) (nat_eq (depth H) 0) refl))
+          clears_is d D = D ∙ (rw (allowed_is, block_is, r.keys.top) (go (replaces kind (allowed H g)) (nat_eq (depth H) 0) refl))
             where
               go : (x y : Bool) → nat_eq (depth H) 0 ≡ y → (if x && y then needed s.limit g (held s.limit H (depth H)) else None) ≡ option_map held_of (if x && y then only_live s.limit g (required H) else None)
               go true true z = (let w : depth H ≡ 0 = eqb-true _ _ z in rw w (needed_later s.limit H r.is_history g later))

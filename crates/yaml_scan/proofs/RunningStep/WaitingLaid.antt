@@ -1,5 +1,5 @@
 -- A lexeme that has to wait and what comes right after it are laid together as they are laid one after the other.
-use Rattle.std.proofs.Common.{◌≡◌, ℕ, zero, suc, ◌+◌, ◌-◌, ◌≤◌, ◌<◌, not, ◌&&◌, ◌||◌, Bool, true, false, List, [], ◌∷◌, ◌++◌, reverse, filter, map, take, length, length-append, append_assoc, Option, Some, None, refl, ap, sym, ◌∙◌, subst, arith, inl, inr, vec_len, eq-eqb, le-leb, leb-true, eqb-true}
+use Rattle.std.proofs.Common.{◌≡◌, ℕ, zero, suc, ◌+◌, ◌-◌, ◌≤◌, ◌<◌, not, ◌&&◌, Bool, true, false, List, [], ◌∷◌, ◌++◌, reverse, filter, map, take, length, length-append, append_assoc, Option, Some, None, refl, ap, sym, ◌∙◌, subst, arith, inl, inr, eq-eqb, le-leb, leb-true, eqb-true}
 use Rattle.std.specs.Prelude.{if◌then◌else◌, nat_eq, nat_lt, slice_get}
 use Rattle.std.specs.Option.{is_some}
 use Rattle.std.proofs.lemmas.Bool.{cases_Bool, and_parts, and_from}
@@ -8,35 +8,31 @@ use Rattle.yaml_text.specs.declared.token.yaml_token_t.{yaml_token_t}
 use Rattle.yaml_text.specs.Token.{token_of}
 use Rattle.yaml_lexeme.specs.Lexeme.{Lexeme as yaml_lexeme_t}
 use Rattle.yaml_lexeme.specs.Counted.{IsMarkOf}
-use Rattle.yaml_lexeme.specs.Decider.{one_on}
-use Rattle.yaml_scan.specs.Course.{ended}
+use Rattle.yaml_lexeme.specs.Decider.{decides, one_on}
 use Rattle.yaml_scan.specs.declared.groups.block_t.TheVariants.{NONE}
 use Rattle.yaml_scan.specs.declared.groups.group_t.{group_t}
 use Rattle.yaml_scan.specs.declared.depth.slots_t.{slots_t}
 use Rattle.yaml_scan.specs.declared.kind.step_t.{step_t}
 use Rattle.yaml_scan.specs.inside.Scanner.{Scanner}
-use Rattle.yaml_scan.specs.Allowed.{allowed_after, allows}
-use Rattle.yaml_scan.specs.Depth.{depth}
-use Rattle.yaml_scan.specs.Kind.{Kind, is_candidate_kind, is_flow_end, is_flow_start, is_plain, is_stream_end, is_value}
+use Rattle.yaml_scan.specs.Allowed.{allows}
+use Rattle.yaml_scan.specs.Kind.{Kind, is_candidate_kind, is_flow_end, is_flow_start, is_stream_end, is_value}
 use Rattle.yaml_scan.specs.Laid.{Laid}
-use Rattle.yaml_scan.specs.Levels.{greatest_level, laid, stays}
+use Rattle.yaml_scan.specs.Levels.{laid, stays}
 use Rattle.yaml_scan.specs.Settled.{before}
-use Rattle.yaml_scan.specs.SourceOf.{source_of}
-use Rattle.yaml_scan.specs.Step.{front_of, place_after, problem_of}
 use Rattle.yaml_scan.specs.inside.Handed.{IsLaidAs}
 use Rattle.yaml_scan.specs.inside.Opened.{opened}
 use Rattle.yaml_scan.specs.inside.Queue.{begins_with_end, completed_in, keyed, keyed_at, opened_by, pending}
-use Rattle.yaml_scan.specs.inside.Scanning.{AdvancesTwice, CanLayAll, CanPut, Holds, HoldsWith, IsFollowed, IsFollower, IsMet, IsWaiting, LaysTwo, Met, Needs, Waits, counted, groups_in, met_in}
-use Rattle.yaml_scan.specs.inside.Slots.{AreEmptyBelow, AreNested, Held, completed_held, empty_slots, held, is_live, is_level, lost_held, lowest, nested_outer, nested_top, or_top, root_of, slot_after, step_of, still_held}
+use Rattle.yaml_scan.specs.inside.Scanning.{CanLayAll, CanPut, Holds, IsFollowed, IsFollower, IsWaiting, LaysTwo, Waits, counted, groups_in, met_in}
+use Rattle.yaml_scan.specs.inside.Slots.{AreEmptyBelow, AreNested, Held, completed_held, empty_slots, is_live, lost_held, lowest, nested_outer, nested_top, or_top, root_of, slot_after, step_of, still_held}
 use Rattle.yaml_scan.specs.inside.TextReads.{IsDecider}
 use Rattle.yaml_scan.proofs.History.KindTests.{candidate_invites_none, candidate_not_end, candidate_not_flow_end, candidate_not_key, candidate_not_value}
-use Rattle.yaml_scan.proofs.History.KindTests.{decider_no_start, decider_not_candidate, decider_not_end}
+use Rattle.yaml_scan.proofs.History.KindTests.{decider_no_start, decider_not_candidate}
 use Rattle.yaml_scan.proofs.RunningQueue.EmptySlots.{below_empty, lowest-first, lowest_some, swept_front}
 use Rattle.yaml_scan.proofs.RunningQueue.SlotOrder.{outer_nested}
-use Rattle.yaml_scan.proofs.RunningStep.DecidedLaid.{allows_same, and_not, clears_none, counted_holds, read_place, unsettled}
-use Rattle.yaml_scan.proofs.RunningStep.StepPut.{put_advances}
+use Rattle.yaml_scan.proofs.RunningStep.TwoLaid.{allows_same, and_not, between_of, lays_two, met_after, new_after, read_place, unsettled}
+use Rattle.yaml_scan.proofs.RunningStep.StepLaid.{put_in}
+use Rattle.yaml_scan.proofs.RunningStep.StepPut.{IsPut, put_advances}
 use Rattle.yaml_scan.proofs.RunningStep.StepTests.{can_put}
-use Rattle.yaml_scan.proofs.RunningStep.TestsBefore.{allowed_is, flow_is, front_mark, kind_is, root_held, row_met}
 
 -- THE NEXT TOKEN
 -- a group that is a token alone, after others, changes nothing of what is next
@@ -166,12 +162,12 @@ module _ (H : List Laid) (s : Scanner) (r : step_t) (x : yaml_lexeme_t) (c : Can
   ys = groups_in s
 
   first_held : slice_get outer (empty_slots outer) ≡ Some (Some d.outer.0)
-  first_held = subst (λ (n : ℕ). slice_get outer n ≡ Some (Some d.outer.0)) h.empty d.outer.1.0
+  first_held = subst (λ (n : ℕ). slice_get outer n ≡ Some (Some d.outer.0)) h.keys.empty d.outer.1.0
 
   all_live : (m : yaml_mark_t) (g : Held) → slice_get outer s.slots.not_simple_keys ≡ Some (Some g) → is_live s.limit m g ≡ true → map (still_held s.limit m) outer ≡ outer
   all_live m g e t =
-      let nested : AreNested outer = subst AreNested (sym h.outer) (outer_nested s.limit H h.is_history) in
-      let below : AreEmptyBelow s.slots.not_simple_keys outer = subst (λ (n : ℕ). AreEmptyBelow n outer) (sym h.empty) (below_empty outer) in
+      let nested : AreNested outer = subst AreNested (sym h.keys.outer) (outer_nested s.limit H h.is_history) in
+      let below : AreEmptyBelow s.slots.not_simple_keys outer = subst (λ (n : ℕ). AreEmptyBelow n outer) (sym h.keys.empty) (below_empty outer) in
       swept_front s.limit m outer outer s.slots.not_simple_keys g nested (λ i f q. q) below e t
 
   live_then : map (still_held s.limit x.reach) outer ≡ outer
@@ -187,7 +183,7 @@ module _ (H : List Laid) (s : Scanner) (r : step_t) (x : yaml_lexeme_t) (c : Can
   not_last = candidate_not_end r.kind u.candidate
 
   early : s.layout.queue.early ≡ 0
-  early = h.early c.can.can.running
+  early = h.queue.early c.can.can.running
 
   -- the slot of its depth
   abbrev then_top : Option Held
@@ -204,29 +200,21 @@ module _ (H : List Laid) (s : Scanner) (r : step_t) (x : yaml_lexeme_t) (c : Can
     abbrev group : group_t
     group = record { ends = 0; opens = NONE; key = false; token = token }
 
-    abbrev slots : slots_t
-    slots = record { outer = s.slots.outer; not_simple_keys = s.slots.not_simple_keys; top = then_top; awaited = s.slots.awaited }
-
-    abbrev then_allowed : Bool
-    then_allowed = is_plain r.kind && x.passed_break
-
     abbrev between : Scanner
-    between = record { alloc = s.alloc; text = s.text; refusal = s.refusal; near = s.near; limit = s.limit; slots = slots; allowed = then_allowed; layout = s.layout; reach = x.reach; front = s.front; there = s.there; taken = s.taken; made = s.made }
+    between = between_of s r x then_top s.slots.awaited s.layout
 
     first : IsLaidAs H s r.kind between (ys ++ group ∷ [])
-    first = put_advances H s ys (met_in s r) r.in_flow new x canput slots then_allowed s.layout (ys ++ group ∷ []) record {
+    first = put_advances H s ys (met_in s r) r.in_flow new x canput between.slots between.allowed s.layout (ys ++ group ∷ []) record {
       kept = s.layout.levels.items;
       kept_is = rw u.flow (sym (flow_keeps r.kind new.start ls));
-      early = 0;
-      early_none = λ z. refl;
-      early_is = early;
-      front = λ z. absurd (omega arith);
+      early = λ z. early;
+      front = λ z. absurd (let e = early in omega arith);
       completed = None;
       completed_is = rw (candidate_not_value r.kind u.candidate) refl;
       none = true;
       none_is = refl;
       group = group;
-      ends_are = rw (u.flow, flow_closes_none r.kind new.start ls) refl;
+      ends_are = rw (early, u.flow, flow_closes_none r.kind new.start ls) refl;
       token = TOKEN;
       key = refl;
       opens = rw (u.flow, flow_opens_none None r.kind new.start.column ls) refl;
@@ -236,21 +224,14 @@ module _ (H : List Laid) (s : Scanner) (r : step_t) (x : yaml_lexeme_t) (c : Can
       done = refl;
       outer = rw (u.stays, candidate_not_flow_end r.kind u.candidate, live_then) refl;
       top = rw (u.stays, candidate_not_flow_end r.kind u.candidate) top_is;
-      empty = h.empty;
-      awaited = h.awaited ∙ ap step_of (low r.kind u.stays outer d.outer.0 first_held s.slots.top ∙ sym (low r.kind u.stays outer d.outer.0 first_held then_top));
+      empty = h.keys.empty;
+      awaited = h.keys.awaited ∙ ap step_of (low r.kind u.stays outer d.outer.0 first_held s.slots.top ∙ sym (low r.kind u.stays outer d.outer.0 first_held then_top));
       allows = λ n e. rw (candidate_invites_none r.kind u.candidate u.stays, candidate_not_key r.kind u.candidate, candidate_not_value r.kind u.candidate, and_not (nat_eq n 0)) refl;
     }
 
-    -- what holds then
+    -- what is laid then
     abbrev H1 : List Laid
     H1 = laid s.limit H first.advances.lexeme ∷ H
-
-    then_running : ended H1 ≡ false
-    unfolding laid
-    then_running = rw first.kind not_last
-
-    then_holds : HoldsWith H1 (s.made + 1 + 1) (counted between) (ys ++ group ∷ [])
-    then_holds = counted_holds H1 (s.made + 1 + 1) between (ys ++ group ∷ []) first.advances.holds
 
     then_needed : length (before s.limit H1) ≤ s.taken
     then_needed = unsettled H1 (s.made + 1 + 1) between (ys ++ group ∷ []) first.advances.holds (let l = length-append ys (group ∷ []) in omega arith) u.awaited
@@ -260,33 +241,10 @@ module _ (H : List Laid) (s : Scanner) (r : step_t) (x : yaml_lexeme_t) (c : Can
     abbrev front : yaml_mark_t
     front = x.reach
 
-    abbrev met : Met
-    met = record { kind = k; front = front; allowed = then_allowed || (not r.in_flow && nat_lt x.reach.line front.line) }
+    decides_it : decides r.in_flow k ≡ true
+    decides_it = let i = read_place H s r x c u.candidate in (d.decider i.0 i.1).decides
 
-    at_front : IsMarkOf s.text.chars front (place_after H1)
-    at_front = then_holds.place then_running
-
-    decider : IsDecider s.text.chars r.in_flow (place_after H1) k y
-    decider = d.decider (place_after H1) at_front
-
-    then_front : IsMarkOf s.text.chars front (front_of (source_of s.text.chars) H1)
-    then_front = front_mark H1 (s.made + 1 + 1) (counted between) then_holds then_running r.in_flow c.can.is_new.flow front (rw (decider.gap then_allowed) at_front)
-
-    front_is : front_of (source_of s.text.chars) H1 ≡ place_after H1
-    front_is =
-        let flow : r.in_flow ≡ nat_lt 0 (depth H1) = flow_is H1 (s.made + 1 + 1) (counted between) then_holds then_running r.in_flow c.can.is_new.flow in
-        subst (λ (f : Bool). (source_of s.text.chars).gap f (allowed_after H1) (place_after H1) ≡ place_after H1) flow (decider.gap (allowed_after H1))
-
-    kind_then : Some k ≡ (source_of s.text.chars).kind r.in_flow (front_of (source_of s.text.chars) H1)
-    kind_then = rw front_is (sym decider.kind)
-
-    abbrev root : Option Held
-    root = root_of outer then_top
-
-    root_then : root ≡ held s.limit H1 0
-    root_then = root_held H1 (s.made + 1 + 1) (counted between) then_holds then_running r.in_flow c.can.is_new.flow root outer refl refl
-
-    not_lost : lost_held s.limit front root ≡ None
+    not_lost : lost_held s.limit front (root_of outer then_top) ≡ None
     not_lost = root_kept s.limit front outer then_top s.slots.not_simple_keys d.outer.0 d.outer.1.0 live_then
 
     -- the lexeme is a key if a key is allowed and a `:` comes after it
@@ -305,41 +263,14 @@ module _ (H : List Laid) (s : Scanner) (r : step_t) (x : yaml_lexeme_t) (c : Can
     completes : is_some completed ≡ not (not key)
     completes = rw completed_so (elim (cases_Bool key) [ inl q ↦ rw q refl | inr q ↦ rw q refl ])
 
-    start_then : front ≡ Rattle.yaml_scan.specs.Step.start_at k front
-    start_then = rw (decider_not_end r.in_flow k decider.decides) refl
-
-    then_met : IsMet H1 (counted between) met
-    then_met = record {
-      front = then_front;
-      allowed = allowed_is H1 (s.made + 1 + 1) (counted between) then_holds then_running r.in_flow c.can.is_new.flow front then_front root (lost_held s.limit front root) root_then refl not_lost (Some k) kind_then k refl met.allowed refl;
-      kind = sym (kind_is H1 (s.made + 1 + 1) (counted between) then_holds then_running r.in_flow c.can.is_new.flow front then_front root (lost_held s.limit front root) root_then refl not_lost (Some k) kind_then);
-      step = row_met H1 (s.made + 1 + 1) (counted between) then_holds then_running r.in_flow c.can.is_new.flow front then_front root (lost_held s.limit front root) root_then refl not_lost (Some k) kind_then k refl met.allowed refl
-          completed refl (not key) completes (rw u.flow refl) front start_then None (rw (clears_none r.in_flow k met.allowed decider.decides) refl) refl;
-    }
-
-    abbrev level : Option ℕ
-    level = greatest_level (filter (stays r.in_flow k front) ls)
-
-    abbrev then_new : Held
-    then_new = record { step = s.made + 1 + 1; start = front; required = is_level r.in_flow level front.column }
-
-    then_canput : CanPut H1 (counted between) (ys ++ group ∷ []) met r.in_flow then_new y
-    then_canput = record {
-      can = record { holds = then_holds; running = then_running; small = c.can.can.small; few_steps = (let f = c.can.can.few_steps in omega arith); met = then_met };
-      level = level;
-      is_new = record { flow = c.can.is_new.flow; is_greatest = refl; step = refl; start = start_then; required = refl };
-      read = rw front_is (decider.read (vec_len s.slots.outer) level);
-      kept = rw (decider_not_candidate r.in_flow k decider.decides) (root_kept s.limit y.reach outer None s.slots.not_simple_keys d.outer.0 d.outer.1.0 live_after);
-    }
-
     at_last : new.step - 1 - s.layout.queue.done ≡ length ys
-    at_last = let e = c.can.is_new.step in let n = h.number in let z = h.count in omega arith
+    at_last = let e = c.can.is_new.step in let n = h.number in let z = h.queue.count in omega arith
 
     module _ (value : yaml_token_t) (SAYS : token_of value ≡ record { token_data = y.token_data; start_mark = front; end_mark = y.end_mark })
         (S : slots_t) (OUTER : S.outer.items ≡ nested_outer k outer None) (TOP : S.top ≡ nested_top k outer None) (EMPTY : S.not_simple_keys ≡ s.slots.not_simple_keys) (AWAITED : S.awaited ≡ s.slots.awaited)
         (a : Bool) (ALLOWED : (n : ℕ) → r.in_flow ≡ nat_lt 0 n → a ≡ allows k n (not key) false) where
       abbrev pub after : Scanner
-      after = record { alloc = s.alloc; text = s.text; refusal = s.refusal; near = s.near; limit = s.limit; slots = S; allowed = a; layout = s.layout; reach = y.reach; front = s.front; there = s.there; taken = s.taken; made = s.made + 1 }
+      after = put_in (counted between) S a s.layout y.reach
 
       -- its group, once that is known
       abbrev pub keyed_group : group_t
@@ -354,20 +285,18 @@ module _ (H : List Laid) (s : Scanner) (r : step_t) (x : yaml_lexeme_t) (c : Can
         | inr q ↦ rw q (sym (append_assoc ys (group ∷ []) (last ∷ [])))
       ])
 
-      second : IsLaidAs H1 (counted between) k after (ys ++ keyed_group ∷ (last ∷ []))
-      second = put_advances H1 (counted between) (ys ++ group ∷ []) met r.in_flow then_new y then_canput S a s.layout (ys ++ keyed_group ∷ (last ∷ [])) record {
+      second : IsPut (counted between) (ys ++ group ∷ []) (met_after r x k) r.in_flow (new_after s r k x.reach s.layout) y S a s.layout (ys ++ keyed_group ∷ (last ∷ []))
+      second = record {
         kept = s.layout.levels.items;
         kept_is = rw u.flow (sym (flow_keeps k front ls));
-        early = 0;
-        early_none = λ z. refl;
-        early_is = early;
-        front = λ z. absurd (omega arith);
+        early = λ z. early;
+        front = λ z. absurd (let e = early in omega arith);
         completed = completed;
         completed_is = refl;
         none = not key;
         none_is = completes;
         group = last;
-        ends_are = rw (u.flow, flow_closes_none k front ls) refl;
+        ends_are = rw (early, u.flow, flow_closes_none k front ls) refl;
         token = SAYS;
         key = refl;
         opens = rw u.flow (sym (flow_opens_none completed k front.column ls));
@@ -375,19 +304,14 @@ module _ (H : List Laid) (s : Scanner) (r : step_t) (x : yaml_lexeme_t) (c : Can
         groups = groups_then;
         long = (let l = length-append ys (keyed_group ∷ (last ∷ [])) in let m = length-append ys (group ∷ []) in omega arith);
         done = refl;
-        outer = OUTER ∙ (rw (decider_not_candidate r.in_flow k decider.decides, live_after) refl);
-        top = TOP ∙ (rw (decider_not_candidate r.in_flow k decider.decides, live_after) refl);
-        empty = EMPTY ∙ h.empty ∙ sym (ap empty_slots OUTER ∙ nested_empties k (decider_no_start r.in_flow k decider.decides) outer d.outer.0 first_held);
-        awaited = AWAITED ∙ h.awaited ∙ ap step_of (low k (decider_no_start r.in_flow k decider.decides) outer d.outer.0 first_held s.slots.top)
-            ∙ (rw (OUTER, TOP) (sym (ap step_of (nested_lowest k (decider_no_start r.in_flow k decider.decides) outer d.outer.0 first_held))));
-        allows = λ n e. ALLOWED n e ∙ allows_same r.in_flow k n (not key) y.passed_break decider.decides;
+        outer = OUTER ∙ (rw (decider_not_candidate r.in_flow k decides_it, live_after) refl);
+        top = TOP ∙ (rw (decider_not_candidate r.in_flow k decides_it, live_after) refl);
+        empty = EMPTY ∙ h.keys.empty ∙ sym (ap empty_slots OUTER ∙ nested_empties k (decider_no_start r.in_flow k decides_it) outer d.outer.0 first_held);
+        awaited = AWAITED ∙ h.keys.awaited ∙ ap step_of (low k (decider_no_start r.in_flow k decides_it) outer d.outer.0 first_held s.slots.top)
+            ∙ (rw (OUTER, TOP) (sym (ap step_of (nested_lowest k (decider_no_start r.in_flow k decides_it) outer d.outer.0 first_held))));
+        allows = λ n e. ALLOWED n e ∙ allows_same r.in_flow k n (not key) y.passed_break decides_it;
       }
 
       pub twice : (zs : List group_t) → zs ≡ ys ++ keyed_group ∷ (last ∷ []) → (t : Scanner) → counted t ≡ after → LaysTwo true H s t zs
-      twice zs Z t T =
-          let a : AdvancesTwice H s after (ys ++ keyed_group ∷ (last ∷ [])) = record { between = between; then_queued = ys ++ group ∷ []; first = first.advances; running = then_running; far = c.far; second = second.advances } in
-          let b : (b : AdvancesTwice H s after (ys ++ keyed_group ∷ (last ∷ []))) × Needs true H s after (ys ++ keyed_group ∷ (last ∷ [])) b = (a, λ z. then_needed) in (
-            subst (λ (z : List group_t). (b : AdvancesTwice H s (counted t) z) × Needs true H s (counted t) z b) (sym Z)
-                (subst (λ (w : Scanner). (b : AdvancesTwice H s w (ys ++ keyed_group ∷ (last ∷ []))) × Needs true H s w (ys ++ keyed_group ∷ (last ∷ [])) b) (sym T) b),
-            subst (λ (m : yaml_mark_t). m.index < s.near) (sym (ap (λ (w : Scanner). w.reach) T)) d.far,
-          )
+      twice zs Z t T = lays_two H s r x c k y then_top s.slots.awaited s.layout (ys ++ group ∷ []) first not_last d.decider (not key) completes (rw u.flow refl) not_lost (root_kept s.limit y.reach outer None s.slots.not_simple_keys d.outer.0 d.outer.1.0 live_after)
+          true (λ z. then_needed) S a s.layout (ys ++ keyed_group ∷ (last ∷ [])) second d.far zs Z t T

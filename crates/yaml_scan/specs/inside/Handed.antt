@@ -133,19 +133,10 @@ pub record AllSettled (s : Scanner) (zs : List group_t) (tokens : List yaml_toke
 -- t is s after all tokens of the groups zs, which it would have queued, were handed out
 pub record Empties (s : Scanner) (zs : List group_t) (t : Scanner) (tokens : List yaml_token_t) : Type 0 where
   pub all : AllSettled s zs tokens
-  pub text : t.text ≡ s.text
-  pub refusal : t.refusal ≡ s.refusal
-  pub near : t.near ≡ s.near
-  pub limit : t.limit ≡ s.limit
-  pub slots : t.slots ≡ s.slots
-  pub allowed : t.allowed ≡ s.allowed
-  pub levels : t.layout.levels ≡ s.layout.levels
-  pub reach : t.reach ≡ s.reach
-  pub made : t.made ≡ s.made
+  pub same : t ≡ set_queue s t.layout.queue (s.taken + length tokens)
   pub early : t.layout.queue.early ≡ 0
   pub groups : t.layout.queue.groups.items ≡ []
   pub done : t.layout.queue.done ≡ s.layout.queue.done + length zs
-  pub taken : t.taken ≡ s.taken + length tokens
 
 -- A scanner that has queued the groups zs, or has handed out all of them. If they are queued, no more steps were made
 -- than the next token needs.

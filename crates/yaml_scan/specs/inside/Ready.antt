@@ -2,12 +2,15 @@
 use Rattle.std.specs.Prelude.{◌≡◌, ◌⊎◌, ℕ, ◌+◌, ◌≤◌, ◌<◌, max, true, false, List, [], length, slice_get, None, Some}
 use Rattle.std.specs.Prelude.{Bool, Option, if◌then◌else◌, option_map}
 use Rattle.yaml_text.specs.declared.types.yaml_encoding_t.{yaml_encoding_t}
+use Rattle.yaml_text.specs.declared.types.yaml_mark_t.{yaml_mark_t}
 use Rattle.yaml_text.specs.declared.types.yaml_encoding_t.TheVariants.{YAML_UTF8_ENCODING}
 use Rattle.yaml_text.specs.Decode.{front}
 use Rattle.yaml_text.specs.declared.fault.yaml_fault_t.{yaml_fault_t}
 use Rattle.yaml_text.specs.Fault.{Fault, memory_fault, zero_mark, fault_of}
 use Rattle.yaml_scan.specs.Course.{Course, course}
 use Rattle.yaml_scan.specs.inside.Scanner.{Scanner, scanner_of}
+use Rattle.yaml_scan.specs.declared.depth.slots_t.{slots_t}
+use Rattle.yaml_scan.specs.declared.levels.layout_t.{layout_t}
 use Rattle.yaml_scan.specs.declared.parser.yaml_parser_t.TheInside.{Inside}
 use Rattle.yaml_text.specs.Token.{token_of}
 use Rattle.yaml_scan.specs.KeyLimits.{most_key_limit}
@@ -22,20 +25,24 @@ use Rattle.yaml_scan.specs.inside.Scanning.{IsRunning, IsOpen, history, course_o
 use Rattle.yaml_scan.specs.Parser.{Parser}
 use Rattle.yaml_scan.specs.inside.Queue.{IsLead}
 
--- nothing was read yet
-pub record IsNew (s : Scanner) : Type 0 where
-  pub levels : s.layout.levels.items ≡ []
-  pub outer : s.slots.outer.items ≡ []
-  pub empty : s.slots.not_simple_keys ≡ 0
-  pub top : s.slots.top ≡ None
-  pub awaited : s.slots.awaited ≡ 0
-  pub allowed : s.allowed ≡ true
-  pub queue : s.layout.queue.groups.items ≡ []
-  pub done : s.layout.queue.done ≡ 0
-  pub early : s.layout.queue.early ≡ 0
-  pub reach : s.reach ≡ zero_mark
-  pub taken : s.taken ≡ 0
-  pub made : s.made ≡ 0
+-- the parts of a scanner that has read nothing yet: it was read to `at`, n tokens were taken, and m steps made
+pub record AreNew (slots : slots_t) (may : Bool) (layout : layout_t) (at : yaml_mark_t) (n m : ℕ) : Type 0 where
+  pub levels : layout.levels.items ≡ []
+  pub outer : slots.outer.items ≡ []
+  pub empty : slots.not_simple_keys ≡ 0
+  pub top : slots.top ≡ None
+  pub awaited : slots.awaited ≡ 0
+  pub allowed : may ≡ true
+  pub queue : layout.queue.groups.items ≡ []
+  pub done : layout.queue.done ≡ 0
+  pub early : layout.queue.early ≡ 0
+  pub reach : at ≡ zero_mark
+  pub taken : n ≡ 0
+  pub made : m ≡ 0
+
+-- nothing was read yet, whatever the text is
+abbrev pub IsNew : Scanner → Type 0
+IsNew s = AreNew s.slots s.allowed s.layout s.reach s.taken s.made
 
 -- a scanner is in an input
 pub record IsIn (setting : yaml_encoding_t) (input : List ℕ) (s : Scanner) : Type 0 where

@@ -1,5 +1,5 @@
 -- What a running scanner holds after the lexemes H.
-use Rattle.std.specs.Prelude.{◌≡◌, ℕ, ◌+◌, ◌-◌, ◌≤◌, ◌<◌, ◌^◌, true, false, List, [], ◌∷◌, ◌++◌, reverse, drop, length}
+use Rattle.std.specs.Prelude.{◌≡◌, ℕ, ◌+◌, ◌-◌, ◌≤◌, ◌<◌, ◌^◌, true, false, List, [], ◌∷◌, reverse, length}
 use Rattle.std.specs.Prelude.{◌⊎◌, ◌&&◌, ◌||◌, Bool, Option, None, Some, nat_lt, not, filter, vec_len, MatchResult}
 use Rattle.std.specs.Prelude.{Result, Ok, Err, if◌then◌else◌, slice_get}
 use Rattle.std.specs.Option.{IfSome, is_some}
@@ -19,6 +19,7 @@ use Rattle.yaml_lexeme.specs.declared.lex.yaml_context_t.{yaml_context_t}
 use Rattle.yaml_lexeme.specs.declared.lexeme.yaml_lexeme_t.{yaml_lexeme_t as code_lexeme_t}
 use Rattle.yaml_lexeme.specs.declared.problem.yaml_refusal_t.{yaml_refusal_t}
 use Rattle.yaml_lexeme.specs.declared.problem.yaml_refusal_t.TheVariants.{MEMORY}
+use Rattle.yaml_scan.specs.inside.Holding.{HoldsKeys, HoldsLevels, HoldsQueue}
 use Rattle.yaml_scan.specs.inside.StepParts.{read_step}
 use Rattle.yaml_scan.specs.Course.{ended, oldest, Input, Course, course, next}
 use Rattle.yaml_scan.specs.declared.stop.stop_t.{stop_t}
@@ -33,17 +34,16 @@ use Rattle.yaml_scan.specs.inside.Stop.{fault_at}
 use Rattle.yaml_scan.specs.inside.TextReads.{IsDecider, IsOffence, IsProblem, IsRead}
 use Rattle.yaml_scan.specs.Laid.{Laid, reach, Lexeme}
 use Rattle.yaml_scan.specs.Depth.{depth}
-use Rattle.yaml_scan.specs.Allowed.{allowed, allowed_after}
-use Rattle.yaml_scan.specs.Levels.{laid, open_columns, greatest_level, stays}
-use Rattle.yaml_scan.specs.Falling.{AllLess}
+use Rattle.yaml_scan.specs.Allowed.{allowed}
+use Rattle.yaml_scan.specs.Levels.{laid, greatest_level, stays}
 use Rattle.yaml_scan.specs.Order.{IsHistory}
 use Rattle.yaml_scan.specs.Groups.{offline}
 use Rattle.yaml_scan.specs.Settled.{before, first_steps, pace}
-use Rattle.yaml_scan.specs.inside.Slots.{Held, held, outer_to, empty_slots, lowest, step_of}
+use Rattle.yaml_scan.specs.inside.Slots.{Held}
 use Rattle.yaml_scan.specs.inside.Slots.{completed_held, is_live, is_level, lost_held, needed}
 use Rattle.yaml_scan.specs.inside.Slots.{root_of, slot_after}
-use Rattle.yaml_scan.specs.inside.Queue.{IsQueue, begins_with_end, closing, pending}
-use Rattle.yaml_scan.specs.Step.{step, stale, place_after, front_of, start_at, problem_of, replaces}
+use Rattle.yaml_scan.specs.inside.Queue.{begins_with_end, closing, pending}
+use Rattle.yaml_scan.specs.Step.{step, place_after, front_of, start_at, problem_of, replaces}
 use Rattle.yaml_scan.specs.Step.Outcome.{Reads, Faults}
 use Rattle.yaml_scan.specs.Near.{is_near}
 
@@ -70,17 +70,9 @@ pub record HoldsWith (H : List Laid) (n : ℕ) (s : Scanner) (ys : List group_t)
   pub text : AreChars s.text.chars
   pub is_history : IsHistory s.limit H
   pub number : n ≡ length H + 2
-  pub fresh : stale s.limit H (reach H) ≡ None
-  pub levels : reverse s.layout.levels.items ≡ open_columns H
-  pub columns : AllLess (length s.text.chars + 1) (open_columns H)
-  pub outer : s.slots.outer.items ≡ outer_to s.limit H (depth H)
-  pub empty : s.slots.not_simple_keys ≡ empty_slots s.slots.outer.items
-  pub top : s.slots.top ≡ held s.limit H (depth H)
-  pub awaited : s.slots.awaited ≡ step_of (lowest (s.slots.outer.items ++ s.slots.top ∷ []))
-  pub allowed : s.allowed ≡ allowed_after H
-  pub queue : IsQueue s.text.encoding s.layout.queue.early s.layout.queue.front ys (drop s.taken (offline H))
-  pub count : s.layout.queue.done + length ys ≡ length H + 1
-  pub early : ended H ≡ false → s.layout.queue.early ≡ 0
+  pub keys : HoldsKeys s.limit H s.slots s.allowed
+  pub levels : HoldsLevels (length s.text.chars) H s.layout.levels.items
+  pub queue : HoldsQueue s.text.encoding s.taken H s.layout.queue ys
   pub reach : s.reach ≡ reach H
   pub taken : s.taken ≤ length (before s.limit H)
   pub place : ended H ≡ false → IsMarkOf s.text.chars s.reach (place_after H)
@@ -226,9 +218,9 @@ pub record StopsAfter (H : List Laid) (s : Scanner) (r : step_t) (x : yaml_lexem
   pub there : s.there ≡ x.reach
   pub stops : (s.near ≤ x.reach.index) ⊎ (is_some (lost_after s.limit s.slots (met_in s r) r.new x.reach) ≡ true)
 
--- the same scanner, with the place of an offence of another
-abbrev pub at_there : Scanner → Scanner → Scanner
-at_there s t = record {
+-- the same scanner, with other marks: where the gap ends, and the place of an offence
+abbrev pub at_marks : Scanner → yaml_mark_t → yaml_mark_t → Scanner
+at_marks s front there = record {
   alloc = s.alloc;
   text = s.text;
   refusal = s.refusal;
@@ -238,11 +230,15 @@ at_there s t = record {
   allowed = s.allowed;
   layout = s.layout;
   reach = s.reach;
-  front = s.front;
-  there = t.there;
+  front = front;
+  there = there;
   taken = s.taken;
   made = s.made;
 }
+
+-- the same scanner, with the place of an offence of another
+abbrev pub at_there : Scanner → Scanner → Scanner
+at_there s t = at_marks s s.front t.there
 
 -- what a reader does: it reads, and changes only the place of an offence
 pub record HasRead (s t : Scanner) (k : Kind) (x : yaml_context_t) (o : Result code_lexeme_t yaml_refusal_t)
@@ -326,9 +322,9 @@ pub record CanLayAll (H : List Laid) (s : Scanner) (r : step_t) (x : yaml_lexeme
   pub kept : lost_after s.limit s.slots (met_in s r) r.new x.reach ≡ None
   pub far : x.reach.index < s.near
 
--- a scanner that has made a step more
-abbrev pub counted : Scanner → Scanner
-counted s = record {
+-- the same scanner after n steps
+abbrev pub made_to : Scanner → ℕ → Scanner
+made_to s n = record {
   alloc = s.alloc;
   text = s.text;
   refusal = s.refusal;
@@ -341,8 +337,12 @@ counted s = record {
   front = s.front;
   there = s.there;
   taken = s.taken;
-  made = s.made + 1;
+  made = n;
 }
+
+-- a scanner that has made a step more
+abbrev pub counted : Scanner → Scanner
+counted s = made_to s (s.made + 1)
 
 -- the next two lexemes were laid, if the groups zs are queued then
 pub record AdvancesTwice (H : List Laid) (s t : Scanner) (zs : List group_t) : Type 0 where
@@ -414,20 +414,28 @@ course_of s = course s.limit (input_of s)
 unfoldable pub history : Scanner → List Laid
 history s = oldest (s.made - 1) (course_of s).read
 
--- STREAM-START was made, and the session is not over
-pub record IsRunning (s : Scanner) : Type 0 where
+-- STREAM-START was made, and the session is not over, if these groups are queued
+pub record RunsWith (s : Scanner) (ys : List group_t) : Type 0 where
   pub small : length s.text.chars < 2 ^ 63
   pub near : IsNearOf (refusal_seen s.refusal) s.text.chars s.near
-  pub holds : Holds (history s) (s.made + 1) s
+  pub holds : HoldsWith (history s) (s.made + 1) s ys
   pub begun : 0 < s.made
   pub start : (course_of s).begun ≡ true
   pub within : s.made ≤ length (course_of s).read + 1
 
--- one step more
-pub record Steps (s t : Scanner) : Type 0 where
-  pub runs : IsRunning t
+-- STREAM-START was made, and the session is not over
+abbrev pub IsRunning : Scanner → Type 0
+IsRunning s = RunsWith s (groups_in s)
+
+-- one step more, if these groups are queued then
+pub record StepsWith (s t : Scanner) (zs : List group_t) : Type 0 where
+  pub runs : RunsWith t zs
   pub made : t.made ≡ s.made + 1
   pub same : Same s t
+
+-- one step more
+abbrev pub Steps : Scanner → Scanner → Type 0
+Steps s t = StepsWith s t (groups_in t)
 
 -- two steps more, and the next token needs both
 pub record StepsTwice (s t : Scanner) : Type 0 where

@@ -1,4 +1,4 @@
-use Rattle.std.proofs.Common.{◌≡◌, ◌++◌, ◌+◌, ◌∷◌, [], ◌&&◌, ◌||◌, Bool, inl, inr, refl, ap, sym, ◌∙◌, subst, vec_len, not}
+use Rattle.std.proofs.Common.{◌≡◌, ◌++◌, ◌∷◌, [], ◌&&◌, ◌||◌, Bool, inl, inr, refl, ap, sym, ◌∙◌, subst, vec_len, not}
 use Rattle.std.specs.Prelude.{if◌then◌else◌, nat_eq}
 use Rattle.std.proofs.lemmas.Bool.{cases_Bool}
 use Rattle.yaml_text.specs.declared.types.yaml_mark_t.{yaml_mark_t}
@@ -6,8 +6,9 @@ use Rattle.yaml_lexeme.specs.LexemeOf.{lexeme_of}
 use Rattle.yaml_scan.specs.Kind.{is_value}
 use Rattle.yaml_scan.specs.inside.Scanner.{scanner_of}
 use Rattle.yaml_scan.specs.inside.Handed.{group_with, lone, read_to}
-use Rattle.yaml_scan.specs.inside.Scanning.{IsDecided, IsFollower, IsWaiting, groups_in}
+use Rattle.yaml_scan.specs.inside.Scanning.{IsDecided, IsFollower, IsWaiting, counted, groups_in}
 use Rattle.yaml_scan.proofs.RunningStep.DecidedLaid as decided
+use Rattle.yaml_scan.proofs.RunningStep.StepLaid.{put_in}
 use Rattle.yaml_scan.proofs.RunningStep.WaitingLaid as waiting
 use Rattle.yaml_scan.proofs.follower.lay_both.Goals as goal
 
@@ -55,21 +56,7 @@ returns-clause-laid g c = λ X sparing d b e passed t z p F T Z.
           let awaited : new.awaited ≡ s.slots.awaited = v.awaited ∙ ap (λ (i : Bool). if i then s.slots.awaited else 0) w in
           rw w (waiting.twice g.before s r x p k y f t T z Z new v.outer v.top empty awaited a (rw (← allowed) allows)
           _ (λ i. groups_in s ++ group_with (l.1 i) (l.2 i) (allowed i) t ∷ (lone z ∷ []))
-          _ (λ i. record {
-            alloc = s.alloc;
-            text = s.text;
-            refusal = s.refusal;
-            near = s.near;
-            limit = s.limit;
-            slots = new;
-            allowed = a;
-            layout = record { levels = l.0 i; queue = s.layout.queue };
-            reach = y.reach;
-            front = s.front;
-            there = s.there;
-            taken = s.taken;
-            made = s.made + 1;
-          }))
+          _ (λ i. put_in (counted s) new a (record { levels = l.0 i; queue = s.layout.queue }) y.reach))
       | inr w ↦
           let f : IsDecided s sparing r c.args.at k y = subst (λ (i : Bool). IsFollower s sparing r c.args.at i k y) w F in
           let l = levels.levels w in

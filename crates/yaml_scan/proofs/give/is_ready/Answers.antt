@@ -7,7 +7,7 @@ pub overflow_add-queue : goal.overflow_add-queue
 overflow_add-queue g c =
     let s = (scanner_of c.args._text.now c.args.state.now) in
     let r = c.requires.runs in
-    let a = r.holds.count in
+    let a = r.holds.queue.count in
     let b = history_length s r in
     let d = few_made s r in
     let e = r.begun in

@@ -1,4 +1,4 @@
-use Rattle.std.proofs.Common.{◌≡◌, ◌+◌, ◌∷◌, ◌++◌, Option, refl, ap, sym, ◌∙◌, ℕ, arith}
+use Rattle.std.proofs.Common.{◌≡◌, ◌∷◌, ◌++◌, Option, refl, ap, sym, ◌∙◌, arith}
 use Rattle.std.specs.Prelude.{option_to_list}
 use Rattle.yaml_scan.specs.declared.groups.group_t.{group_t}
 use Rattle.yaml_scan.specs.inside.Scanner.{scanner_of}
@@ -25,7 +25,7 @@ returns-clause-drains c =
     let g = ready_head s c.requires.ready.0 y ys c.requires.ready.1 h in
     let q : y ∷ ys ≡ y ∷ g.others = sym h ∙ g.head in
     let others : ys ≡ g.others = cc in
-    group_drained s c.requires.runs y g _ refl refl refl refl refl refl refl refl refl refl refl refl others (ap (λ (k : ℕ). s.taken + k) c.count_of.ensures) c.requires.still_open
+    group_drained s c.requires.runs y g _ refl refl refl others c.count_of.result c.count_of.ensures c.requires.still_open
 
 pub returns-clause-words : goal.returns-clause-words
 returns-clause-words c =

@@ -7,7 +7,7 @@ use Rattle.yaml_scan.specs.inside.Scanner.{scanner_of}
 use Rattle.yaml_scan.specs.inside.Scanning.{CanLayAll}
 use Rattle.yaml_scan.specs.inside.Handed.{group_tokens, group_with, lone, read_to}
 use Rattle.yaml_scan.proofs.RunningStep.StepHanded.{candidate_says, decider_len, decider_says, decider_words, early_there, few_given, few_queued, follower_alone, follower_candidate, follower_decides, follower_room, not_queued, words_there}
-use Rattle.yaml_scan.proofs.RunningStep.DecidedLaid.{read_place}
+use Rattle.yaml_scan.proofs.RunningStep.TwoLaid.{read_place}
 use Rattle.yaml_scan.proofs.layout.lay_all.Goals as goal
 
 pub follower_of-requires-clause-done : goal.follower_of-requires-clause-done

@@ -16,7 +16,7 @@ pub close_levels-closed-requires : goal.close_levels-closed-requires
 close_levels-closed-requires g c = levels_fall g.before (c.args.state.now.made + 1) (scanner_of c.requires.0.0 c.args.state.now) c.requires.0.2.1.can.holds c.requires.0.2.1.can.running (met_in (scanner_of c.requires.0.0 c.args.state.now) c.args.step) c.requires.0.2.1.can.met c.args.step.in_flow c.requires.0.2.1.is_new.flow c.args.step.new.start c.requires.0.2.1.is_new.start
 
 pub keep_candidates-requires-clause-nested : goal.keep_candidates-requires-clause-nested
-keep_candidates-requires-clause-nested g c = let r = c.requires.0.2.1.can.holds in subst (λ (hs : List (Option Held)). AreNested hs) (sym r.outer) (outer_nested c.args.state.now.limit g.before r.is_history)
+keep_candidates-requires-clause-nested g c = let r = c.requires.0.2.1.can.holds in subst (λ (hs : List (Option Held)). AreNested hs) (sym r.keys.outer) (outer_nested c.args.state.now.limit g.before r.is_history)
 
 pub put_key-opens-requires-clause-falls : goal.put_key-opens-requires-clause-falls
 put_key-opens-requires-clause-falls g c = l_falls g.before (c.args.state.now.made + 1) (scanner_of c.requires.0.0 c.args.state.now) c.requires.0.2.1.can.holds c.requires.0.2.1.can.running (met_in (scanner_of c.requires.0.0 c.args.state.now) c.args.step) c.requires.0.2.1.can.met c.args.step.in_flow c.requires.0.2.1.is_new.flow c.args.step.new.start c.requires.0.2.1.is_new.start c.close_levels-closed.new.levels.items c.close_levels-closed.ensures.levels
@@ -25,7 +25,7 @@ pub put_key-opens-requires-clause-fits : goal.put_key-opens-requires-clause-fits
 put_key-opens-requires-clause-fits g c = fitting g.before (c.args.state.now.made + 1) (scanner_of c.requires.0.0 c.args.state.now) c.requires.0.2.1.can.holds c.requires.0.2.1.can.running (met_in (scanner_of c.requires.0.0 c.args.state.now) c.args.step) c.requires.0.2.1.can.met c.args.step.in_flow c.requires.0.2.1.is_new.flow c.args.step.new.start c.requires.0.2.1.is_new.start c.close_levels-closed.new.levels.items c.close_levels-closed.ensures.levels c.requires.0.2.1.level (c.requires.0.2.1.is_new.is_greatest ∙ ap greatest_level (sym c.close_levels-closed.ensures.levels)) (vec_len c.args.state.now.slots.outer) refl c.requires.0.1 c.requires.0.2.1.read c.completed_by-completed.result c.completed_by-completed.ensures
 
 pub keep_early-requires : goal.keep_early-requires
-keep_early-requires g c = let k = c.put_key-opens.ensures.rest in record { none = k.early ∙ c.requires.0.2.1.can.holds.early c.requires.0.2.1.can.running }
+keep_early-requires g c = let k = c.put_key-opens.ensures.rest in record { none = k.early ∙ c.requires.0.2.1.can.holds.queue.early c.requires.0.2.1.can.running }
 
 pub returns-clause-laid : goal.returns-clause-laid
 returns-clause-laid g c = λ X d b e t p T.
@@ -37,16 +37,14 @@ returns-clause-laid g c = λ X d b e t p T.
     record { levels = c.put_key-opens.new.layout.levels; queue = c.keep_early.new.queue } (c.keep_early.new.queue.groups.items ++ new ∷ []) record {
       kept = c.close_levels-closed.new.levels.items;
       kept_is = c.close_levels-closed.ensures.levels;
-      early = c.close_levels-closed.result.early;
-      early_none = c.close_levels-closed.ensures.none;
-      early_is = y.early;
-      front = y.front;
+      early = λ e. y.early ∙ c.close_levels-closed.ensures.none e;
+      front = λ l. y.front (let e = y.early in omega arith);
       completed = c.completed_by-completed.result;
       completed_is = c.completed_by-completed.ensures;
       none = c.is_none.result;
       none_is = c.is_none.ensures;
       group = new;
-      ends_are = c.close_levels-closed.ensures.ends;
+      ends_are = rw y.early c.close_levels-closed.ensures.ends;
       token = T;
       key = refl;
       opens = c.put_key-opens.ensures.opens;

@@ -1,9 +1,8 @@
 use Rattle.std.proofs.lemmas.Result.{err_from_is_err_and}
-use Rattle.yaml_scan.proofs.RunningStep.FirstStep.{new_beside}
 use Rattle.yaml_scan.proofs.parser.begin_text.Goals as goal
 
 pub begin-requires : goal.begin-requires
-begin-requires c = λ X. new_beside c.args.state.now c.args.text.now X c.requires
+begin-requires c = λ X. c.requires
 
 pub returns-in_err-text : goal.returns-in_err-text
 returns-in_err-text c = let p = err_from_is_err_and c.from_residual.result c.from_residual.ensures.1 in rw (p.1, p.2) (c.in_err-text.ensures c.args.text.now)
