@@ -242,7 +242,12 @@ pub(crate) fn read_directive(
         text: text,
         at: state.front,
     };
-    let read = yaml_read_lexeme(state.alloc, &mut spot, yaml_lexeme_kind_t::DIRECTIVE, context);
+    let read = yaml_read_lexeme(
+        state.alloc,
+        &mut spot,
+        yaml_lexeme_kind_t::DIRECTIVE,
+        context,
+    );
     if read.is_err() {
         state.there = spot.at;
     }

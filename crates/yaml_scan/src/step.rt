@@ -21,8 +21,8 @@ use crate::layout::{end_character, end_laid, end_laid_queued, end_queued, lay_qu
 use crate::scanner::{cleared_by, refused_by, state_t, step_of};
 use crate::sink::{no_sink_t, yaml_token_sink_t};
 use crate::source::{
-    gap_end, kind_at, read_block, read_character, read_directive, read_marker, read_name, read_plain,
-    read_quoted, read_stream_end, read_tag,
+    gap_end, kind_at, read_block, read_character, read_directive, read_marker, read_name,
+    read_plain, read_quoted, read_stream_end, read_tag,
 };
 use crate::stop::{stop_at_kind, stop_at_start, stop_in_gap, stop_t, stop_without_kind, stopped};
 use yaml_lexeme::yaml_lexeme_kind_t;

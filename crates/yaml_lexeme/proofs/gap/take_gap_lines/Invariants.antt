@@ -1,4 +1,4 @@
-use Rattle.std.proofs.Common.{◌≡◌, length}
+use Rattle.std.proofs.Common.{length}
 use Rattle.yaml_lexeme.proofs.Readers.GapLines.{Comes}
 use Rattle.yaml_lexeme.specs.Gap.{after_gap_line}
 use Rattle.yaml_lexeme.proofs.gap.take_gap_lines.Given as goal
