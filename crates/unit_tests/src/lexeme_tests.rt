@@ -387,11 +387,12 @@ fn expect_comment(
     let index = text.as_bytes().len();
     text.push_str("y")?;
     let shown = show_gap(alloc, text.as_bytes(), false, true)?;
-    let end = index + 1;
+    let end = text.as_bytes().len();
+    let column = letters.saturating_add(spaces).saturating_add(3);
     let want = if broken {
         format!(in alloc; "{index}:1:{spaces} true")?
     } else {
-        format!(in alloc; "{end}:0:{} false", letters + spaces + 3)?
+        format!(in alloc; "{end}:0:{column} false")?
     };
     assert_eq!(rt; shown.as_str(), want.as_str(), "{letters} {spaces}");
     Ok(())
