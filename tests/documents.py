@@ -4,7 +4,8 @@
 One line of output for each check; what is wrong is printed before it. The checks:
 
 - paths: what a document has in backticks or as a link, and looks like a path of the repository, is there. A `*` stands for
-  any name. Paths are from the repository's root, or from the document's folder. What scripts write may be missing:
+  any name. Paths are from the repository's root, or from the document's folder; those of definitions, proofs and code may be
+  from any folder of a crate. What scripts write may be missing:
   bench/results.md, docs/speed.svg and what is in a folder `out`. The documents are README.md, CHANGELOG.md, CONTRIBUTING.md,
   docs/, and the README files of tests/, bench/, uses/, ffi/, rust/, python/, of each crate and of its proofs.
 - written: what `./dev folders` writes is what it would write now: the README.md of each folder of proofs, and of each folder of
@@ -61,7 +62,8 @@ DOCUMENTS = ["README.md", "CHANGELOG.md", "CONTRIBUTING.md", "docs/*.md", "tests
              "ffi/README.md", "rust/README.md", "python/README.md", "crates/*/README.md", "crates/*/proofs/README.md"]
 FOLDERS = ("bench", "crates", "docs", "ffi", "packaging", "python", "rust", "tests", "uses")
 ENDINGS = ("antt", "c", "css", "edit", "gz", "h", "html", "md", "py", "rs", "rt", "txt")
-STAND_FOR_NAMES = {"FILE", "FUNCTION", "NAME"}
+OF_CRATES = ("antt", "rt")  # paths with these endings may be from a folder of a crate
+STAND_FOR_NAMES = {"FILE", "FUNCTION", "NAME", "Topic", "topic"}
 WRITTEN_BY_SCRIPTS = {"bench/results.md", "docs/speed.svg"}
 LONGEST_LINE = 120
 MOST_LOOSE_FILES = 10
@@ -108,7 +110,11 @@ def places_of(word, folder):
     if first == "..":
         return [there]
     if "/" in plain:
-        return [there] if folder and os.path.exists(os.path.join(TOP, folder, first)) else []
+        if folder and os.path.exists(os.path.join(TOP, folder, first)):
+            return [there]
+        if plain.split(".")[-1] not in OF_CRATES:
+            return []
+        return [os.path.join("crates", "*", *part, plain) for part in ((), ("specs", "**"), ("src",), ("proofs", "**"))]
     if plain.split(".")[-1] in ENDINGS and "." in plain:
         return [there, plain, os.path.join("**", plain)]
     return []
