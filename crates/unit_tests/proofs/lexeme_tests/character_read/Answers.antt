@@ -1,4 +1,4 @@
-use Rattle.std.proofs.Common.{◌∙◌, sym}
+use Rattle.std.proofs.Common.{◌∙◌, Some, ap, sym}
 use Rattle.yaml_lexeme.proofs.Places.CursorMoves.{at_front}
 use Rattle.unit_tests.proofs.lexeme_tests.character_read.Goals as goal
 
@@ -9,7 +9,7 @@ pub yaml_read_character-requires-clause-place : goal.yaml_read_character-require
 yaml_read_character-requires-clause-place c = let f = at_front c.in-Ok.text.chars in (0, f, (c.args.in_flow, sym (c.yaml_lexeme_kind.ensures 0 f) ∙ c.in-Some.is))
 
 pub yaml_read_marker-requires : goal.yaml_read_marker-requires
-yaml_read_marker-requires c = let f = at_front c.in-Ok.text.chars in (0, f, (c.args.in_flow, sym (c.yaml_lexeme_kind.ensures 0 f) ∙ c.in-Some.is))
+yaml_read_marker-requires c = let f = at_front c.in-Ok.text.chars in (0, f, (c.args.in_flow, sym (c.yaml_lexeme_kind.ensures 0 f) ∙ c.in-Some.is ∙ ap Some c.in-DOCUMENT_START.is))
 
-pub yaml_read_marker-requires-2 : goal.yaml_read_marker-requires-2
-yaml_read_marker-requires-2 c = let f = at_front c.in-Ok.text.chars in (0, f, (c.args.in_flow, sym (c.yaml_lexeme_kind.ensures 0 f) ∙ c.in-Some.is))
+pub yaml_read_marker-requires-in-DOCUMENT_END : goal.yaml_read_marker-requires-in-DOCUMENT_END
+yaml_read_marker-requires-in-DOCUMENT_END c = let f = at_front c.in-Ok.text.chars in (0, f, (c.args.in_flow, sym (c.yaml_lexeme_kind.ensures 0 f) ∙ c.in-Some.is ∙ ap Some c.in-DOCUMENT_END.is))
