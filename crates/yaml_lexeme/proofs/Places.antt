@@ -10,3 +10,5 @@ pub mod FirstCharacters
 pub mod FedLines
 -- A cursor that moves on over a short piece moves as a place does.
 pub mod ShortMoves
+-- A table is held against a definition at each character of ASCII.
+pub mod AsciiTables

@@ -35,15 +35,24 @@ pub(crate) fn is_white(c: char) -> bool
     is_blank(c) || is_break(c)
 }
 
+/// Which characters of ASCII are blanks, breaks or the end, which reads as 0: for each a 1, and else a 0. A look is
+/// cheaper than comparisons.
+static ENDS: [u8; 128] = [
+    1, 0, 0, 0, 0, 0, 0, 0, 0, 1, 1, 0, 0, 1, 0, 0, 0, 0, 0, 0, 0, 0, 0, 0, 0, 0, 0, 0, 0, 0, 0, 0,
+    1, 0, 0, 0, 0, 0, 0, 0, 0, 0, 0, 0, 0, 0, 0, 0, 0, 0, 0, 0, 0, 0, 0, 0, 0, 0, 0, 0, 0, 0, 0, 0,
+    0, 0, 0, 0, 0, 0, 0, 0, 0, 0, 0, 0, 0, 0, 0, 0, 0, 0, 0, 0, 0, 0, 0, 0, 0, 0, 0, 0, 0, 0, 0, 0,
+    0, 0, 0, 0, 0, 0, 0, 0, 0, 0, 0, 0, 0, 0, 0, 0, 0, 0, 0, 0, 0, 0, 0, 0, 0, 0, 0, 0, 0, 0, 0, 0,
+];
+
 /// A blank, a break or the end.
 #[inline(always)]
 pub(crate) fn ends(c: char) -> bool
     ensures { result ≡ spec.ends c }
 {
-    if c > ' ' && c < '\u{80}' {
-        return false;
+    if c < '\u{80}' {
+        return ENDS[c as usize] == 1;
     }
-    is_blank(c) || is_break(c) || c == '\0'
+    is_break(c)
 }
 
 /// A letter, a digit, `_` or `-`.

@@ -114,6 +114,15 @@ fn is_far_solid(c: char) -> bool
     !(is_break(c) || c == '\u{FEFF}')
 }
 
+/// Which characters of ASCII belong to no gap, and are no breaks: for each a 1, and else a 0. A look is cheaper than
+/// comparisons.
+static SOLID: [u8; 128] = [
+    0, 0, 0, 0, 0, 0, 0, 0, 0, 0, 0, 0, 0, 0, 0, 0, 0, 0, 0, 0, 0, 0, 0, 0, 0, 0, 0, 0, 0, 0, 0, 0,
+    0, 1, 1, 0, 1, 1, 1, 1, 1, 1, 1, 1, 1, 1, 1, 1, 1, 1, 1, 1, 1, 1, 1, 1, 1, 1, 1, 1, 1, 1, 1, 1,
+    1, 1, 1, 1, 1, 1, 1, 1, 1, 1, 1, 1, 1, 1, 1, 1, 1, 1, 1, 1, 1, 1, 1, 1, 1, 1, 1, 1, 1, 1, 1, 1,
+    1, 1, 1, 1, 1, 1, 1, 1, 1, 1, 1, 1, 1, 1, 1, 1, 1, 1, 1, 1, 1, 1, 1, 1, 1, 1, 1, 1, 1, 1, 1, 1,
+];
+
 /// Whether a character that belongs to no gap, and is no break, is so many places on.
 #[inline(always)]
 fn is_solid(cursor: &cursor_t, k: usize) -> bool
@@ -121,7 +130,7 @@ fn is_solid(cursor: &cursor_t, k: usize) -> bool
 {
     let c = cursor.peek(k);
     if c < '\u{80}' {
-        c > ' ' && c != '#'
+        SOLID[c as usize] == 1
     } else {
         is_far_solid(c)
     }

@@ -6,6 +6,7 @@ ghost use Rattle.yaml_lexeme.specs.Answers.{lexeme_at};
 ghost use Rattle.yaml_lexeme.specs.Lexeme.{whole_of};
 ghost use Rattle.yaml_lexeme.specs.Place.{place_at};
 ghost use Rattle.yaml_lexeme.specs.Counted.{IsMarkOf};
+ghost use Rattle.std.specs.Char.{is_ascii_alphanumeric, IsAsciiAlphanumeric};
 ghost use Rattle.yaml_lexeme.specs.Kind as spec;
 ghost use Rattle.yaml_lexeme.specs.declared.lex.yaml_context_t.{yaml_context_t};
 
@@ -110,14 +111,31 @@ fn starts_plain(c: char, in_flow: bool) -> bool
     !(ends(c) || is_indicator(c)) || c == '-' || (!in_flow && (c == '?' || c == ':'))
 }
 
-/// The kind of the lexeme that is here.
+/// Which characters of ASCII are letters and digits: for each a 1, and else a 0. A look is cheaper than comparisons.
+static LETTERS_AND_DIGITS: [u8; 128] = [
+    0, 0, 0, 0, 0, 0, 0, 0, 0, 0, 0, 0, 0, 0, 0, 0, 0, 0, 0, 0, 0, 0, 0, 0, 0, 0, 0, 0, 0, 0, 0, 0,
+    0, 0, 0, 0, 0, 0, 0, 0, 0, 0, 0, 0, 0, 0, 0, 0, 1, 1, 1, 1, 1, 1, 1, 1, 1, 1, 0, 0, 0, 0, 0, 0,
+    0, 1, 1, 1, 1, 1, 1, 1, 1, 1, 1, 1, 1, 1, 1, 1, 1, 1, 1, 1, 1, 1, 1, 1, 1, 1, 1, 0, 0, 0, 0, 0,
+    0, 1, 1, 1, 1, 1, 1, 1, 1, 1, 1, 1, 1, 1, 1, 1, 1, 1, 1, 1, 1, 1, 1, 1, 1, 1, 1, 0, 0, 0, 0, 0,
+];
+
+/// Whether a character is a letter or a digit of ASCII.
+#[inline(always)]
+fn is_letter_or_digit(c: char) -> bool
+    ensures value { result ≡ is_ascii_alphanumeric c }
+    ensures ranges { result ≡ true → IsAsciiAlphanumeric c }
+{
+    c < '\u{80}' && LETTERS_AND_DIGITS[c as usize] == 1
+}
+
+/// The kind of the lexeme that is here. The character after a dash mostly is a space, so that is asked first.
 #[tactic(auto, unfolding(crate::specs::Kind::kind_at))]
 #[inline(always)]
 fn kind_at(cursor: &cursor_t, in_flow: bool) -> Option<yaml_lexeme_kind_t>
     ensures { result ≡ spec.kind_at in_flow cursor.now }
 {
     let c = cursor.peek(0);
-    if c.is_ascii_alphanumeric() {
+    if is_letter_or_digit(c) {
         return Some(yaml_lexeme_kind_t::PLAIN);
     }
     Some(match c {
@@ -128,7 +146,7 @@ fn kind_at(cursor: &cursor_t, in_flow: bool) -> Option<yaml_lexeme_kind_t>
         ']' => yaml_lexeme_kind_t::FLOW_SEQUENCE_END,
         '}' => yaml_lexeme_kind_t::FLOW_MAPPING_END,
         ',' => yaml_lexeme_kind_t::FLOW_ENTRY,
-        '-' if is_at!(cursor, ends, 1) => yaml_lexeme_kind_t::BLOCK_ENTRY,
+        '-' if check_at!(cursor, ' ', 1) || is_at!(cursor, ends, 1) => yaml_lexeme_kind_t::BLOCK_ENTRY,
         '-' if is_marker_of(cursor, '-') => yaml_lexeme_kind_t::DOCUMENT_START,
         '.' if is_marker_of(cursor, '.') => yaml_lexeme_kind_t::DOCUMENT_END,
         '?' if in_flow || is_at!(cursor, ends, 1) => yaml_lexeme_kind_t::KEY,

@@ -1,5 +1,5 @@
 //! The cursor: a place that moves through the bytes of a text.
-ghost use Rattle.std.specs.Prelude.{ℕ, min, ◌≡◌, ◌+◌, ◌^◌, ◌<◌, ◌≤◌, length, slice_index, take, drop, false, true};
+ghost use Rattle.std.specs.Prelude.{ℕ, min, ◌≡◌, ◌+◌, ◌-◌, ◌^◌, ◌<◌, ◌≤◌, length, slice_index, take, drop, false, true};
 ghost use Rattle.std.specs.Prelude.{IfSome, None, nat_lt};
 ghost use Rattle.std.specs.Char.{len_utf8};
 ghost use Rattle.std.specs.Str.{chars};
@@ -249,6 +249,16 @@ impl<'a> cursor_t<'a> {
         first_char(left)
     }
 
+    /// Whether the first byte that is left is this one. Then the character is here that it spells, which is told sooner
+    /// than the character.
+    #[inline(always)]
+    pub fn begins_with(&self, byte: u8) -> bool
+        requires { byte < 0x80 }
+        ensures { result ≡ true → first self.now ≡ byte }
+    {
+        !self.bytes.is_empty() && self.bytes[0] == byte
+    }
+
     /// Takes a line feed.
     #[inline(always)]
     pub fn pass_feed(&mut self)
@@ -389,6 +399,16 @@ impl<'a> cursor_t<'a> {
         front(start.bytes, start.bytes.len() - self.bytes.len())
     }
 
+    /// The bytes up to this place of those that are left of the text at an earlier one.
+    #[inline(always)]
+    pub fn between(&self, start: &'a [u8]) -> &'a [u8]
+        requires { length (utf8 self.now.rest) ≤ length start.now }
+        ensures { result.now ≡ take (length start.now - length (utf8 self.now.rest)) start.now }
+    {
+        let left = self.left();
+        front(start, start.len() - left.len())
+    }
+
     /// What is left of the text.
     #[inline(always)]
     pub fn left(&self) -> &'a [u8]
@@ -403,6 +423,7 @@ impl<'a> cursor_t<'a> {
     fn skip_quiet(&mut self, class: class_t, passes: bool)
         ensures goes { after_run (class_test class) self.new ≡ after_run (class_test class) self.old }
         ensures shorter { length self.new.rest ≤ length self.old.rest }
+        ensures fewer { length (utf8 self.new.rest) ≤ length (utf8 self.old.rest) }
     {
         let (n, count) = quiet_len(class, self.bytes, passes);
         self.mark = yaml_mark_t {
@@ -507,6 +528,25 @@ impl<'a> cursor_t<'a> {
         self.skip_rest(class);
         let left = self.left();
         front(start, start.len() - left.len())
+    }
+
+    /// Takes characters of a run of the class, up to a byte that ends it or needs a closer look, and returns their bytes.
+    #[inline(always)]
+    pub fn near_run(&mut self, class: class_t) -> &'a [u8]
+        ensures goes { after_run (class_test class) self.new ≡ after_run (class_test class) self.old }
+        ensures value { class_test class (first self.new) ≡ false → result.now ≡ utf8 (run (class_test class) self.old) }
+    {
+        let start = self.left();
+        self.skip_quiet(class, false);
+        self.between(start)
+    }
+
+    /// Whether a run of the class goes on here.
+    #[inline(always)]
+    pub fn goes_on(&self, class: class_t) -> bool
+        ensures { result ≡ class_test class (first self.now) }
+    {
+        is_in(class, self.peek(0))
     }
 
     /// Takes the longest run of characters of the class, and returns its bytes, as `run` does, where that is rare: a

@@ -11,8 +11,8 @@ ghost use Rattle.yaml_lexeme.specs.Kind as kind;
 ghost use Rattle.yaml_lexeme.specs.Quoted as spec;
 ghost use Rattle.yaml_lexeme.specs.inside.Runs as runs;
 ghost use Rattle.yaml_lexeme.specs.inside.Gives.{Gives, Takes};
-ghost use Rattle.yaml_lexeme.specs.inside.Words.{GoesOn, IsPiece, LeadsOn, LeavesMore};
-ghost use Rattle.yaml_lexeme.specs.Place.{Place, first, peek};
+ghost use Rattle.yaml_lexeme.specs.inside.Words.{GoesOn, IsInLine, IsPiece, LeadsOn, LeavesMore};
+ghost use Rattle.yaml_lexeme.specs.Place.{Place, first, peek, skip};
 ghost use Rattle.yaml_lexeme.specs.Reading.{many, over, with_front};
 ghost use Rattle.yaml_lexeme.specs.Quoted.{spelled};
 ghost use Rattle.yaml_lexeme.specs.Escape.{backslash};
@@ -39,6 +39,13 @@ fn unmarked(cursor: &cursor_t) -> Result<bool, yaml_refusal_t>
     } else {
         Ok(true)
     }
+}
+
+#[inline(always)]
+fn quote_byte(single: bool) -> u8
+    ensures { result ≡ spec.quote single }
+{
+    if single { b'\'' } else { b'"' }
 }
 
 fn quote(single: bool) -> char
@@ -129,8 +136,7 @@ fn closes(cursor: &cursor_t, single: bool) -> bool
     ensures over { result ≡ true → spec.body_part single cursor.now ≡ over }
     ensures here { result ≡ true → first cursor.now ≡ spec.quote single }
 {
-    let c = quote(single);
-    check_at!(cursor, c, 0) && !(single && check_at!(cursor, c, 1))
+    cursor.begins_with(quote_byte(single)) && !(single && check_at!(cursor, quote(single), 1))
 }
 
 fn line_class(single: bool) -> class_t
@@ -350,6 +356,119 @@ fn take_apart<const SINGLE: bool>(
     taken
 }
 
+/// Takes what is left of a quoted scalar after the piece of its first line, with which `left` begins. Its value is put
+/// into `room` if it fits.
+#[inline(always)]
+fn take_after(
+    room: Vec<u8>,
+    cursor: &mut cursor_t,
+    single: bool,
+    left: &[u8],
+    piece: &[u8],
+) -> Result<Vec<u8>, yaml_refusal_t>
+    requires { (p : Place) × (IsPiece single (skip 1 p) cursor.old piece.now × (left.now ≡ utf8 (skip 1 p).rest)) }
+    ensures { (p : Place) → IsPiece single (skip 1 p) cursor.old piece.now → left.now ≡ utf8 (skip 1 p).rest
+        → Gives (λ v. v.items) result cursor.new (spec.quoted single p) }
+{
+    let len = unblanked(cursor, single, piece).len();
+    if single {
+        take_apart::<true>(room, cursor, left, len)
+    } else {
+        take_apart::<false>(room, cursor, left, len)
+    }
+}
+
+/// Takes the closing quote, which comes after the piece of a quoted scalar's first line, with which `left` begins. The
+/// value is put into `room` if it fits.
+#[inline(always)]
+fn close(
+    room: Vec<u8>,
+    cursor: &mut cursor_t,
+    single: bool,
+    left: &[u8],
+    piece: &[u8],
+) -> Result<Vec<u8>, yaml_refusal_t>
+    requires piece { (p : Place) × (IsPiece single (skip 1 p) cursor.old piece.now × (left.now ≡ utf8 (skip 1 p).rest)) }
+    requires here { first cursor.old ≡ spec.quote single }
+    requires over { spec.body_part single cursor.old ≡ over }
+    ensures { (p : Place) → IsPiece single (skip 1 p) cursor.old piece.now → left.now ≡ utf8 (skip 1 p).rest
+        → Gives (λ v. v.items) result cursor.new (spec.quoted single p) }
+{
+    match copied_front(room, left, piece.len()) {
+        Ok(value) => {
+            cursor.pass();
+            Ok(value)
+        }
+        Err(refusal) => Err(refused(refusal)),
+    }
+}
+
+/// Takes what is left of a quoted scalar in whose first line a character needs a closer look. `left` is what follows
+/// the opening quote. The value is put into `room` if it fits.
+#[inline(never)]
+fn take_far<const SINGLE: bool>(
+    room: Vec<u8>,
+    cursor: &mut cursor_t,
+    left: &[u8],
+) -> Result<Vec<u8>, yaml_refusal_t>
+    requires { (p : Place) × IsInLine SINGLE (skip 1 p) cursor.old left.now }
+    ensures { (p : Place) → IsInLine SINGLE (skip 1 p) cursor.old left.now
+        → Gives (λ v. v.items) result cursor.new (spec.quoted SINGLE p) }
+{
+    cursor.skip_run(line_class(SINGLE));
+    let piece = cursor.between(left);
+    if closes(cursor, SINGLE) {
+        close(room, cursor, SINGLE, left, piece)
+    } else {
+        take_after(room, cursor, SINGLE, left, piece)
+    }
+}
+
+/// Takes what is left of a quoted scalar as `take_far` does, through a copy of the cursor, so that the caller's cursor
+/// stays in registers.
+#[inline(always)]
+fn take_wide(
+    room: Vec<u8>,
+    cursor: &mut cursor_t,
+    single: bool,
+    left: &[u8],
+) -> Result<Vec<u8>, yaml_refusal_t>
+    requires { (p : Place) × IsInLine single (skip 1 p) cursor.old left.now }
+    ensures { (p : Place) → IsInLine single (skip 1 p) cursor.old left.now
+        → Gives (λ v. v.items) result cursor.new (spec.quoted single p) }
+{
+    let mut here = cursor.again();
+    let taken = if single {
+        take_far::<true>(room, &mut here, left)
+    } else {
+        take_far::<false>(room, &mut here, left)
+    };
+    *cursor = here;
+    taken
+}
+
+/// The place after a character, if one is left.
+#[inline(never)]
+fn past_any<'a>(cursor: &cursor_t<'a>) -> cursor_t<'a>
+    ensures { result ≡ skip 1 cursor.now }
+{
+    let mut here = cursor.again();
+    here.advance();
+    here
+}
+
+/// Takes a character, which is the opening quote if the kind is that of a quoted scalar. That is asked first.
+#[inline(always)]
+fn open(cursor: &mut cursor_t, single: bool)
+    ensures { cursor.new ≡ skip 1 cursor.old }
+{
+    if cursor.begins_with(quote_byte(single)) {
+        cursor.pass();
+    } else {
+        *cursor = past_any(&cursor.again());
+    }
+}
+
 /// Takes a quoted scalar, from its opening quote on. Its value is put into `room` if it fits.
 #[inline(always)]
 pub(crate) fn take_quoted(
@@ -359,21 +478,15 @@ pub(crate) fn take_quoted(
 ) -> Result<Vec<u8>, yaml_refusal_t>
     ensures { Gives (λ v. v.items) result cursor.new (spec.quoted single cursor.old) }
 {
-    cursor.advance();
+    open(cursor, single);
     let left = cursor.left();
-    let piece = cursor.quick_run(line_class(single));
+    let class = line_class(single);
+    let piece = cursor.near_run(class);
     if closes(cursor, single) {
-        let value = match copied_front(room, left, piece.len()) {
-            Ok(value) => value,
-            Err(refusal) => return Err(refused(refusal)),
-        };
-        cursor.pass();
-        return Ok(value);
-    }
-    let len = unblanked(cursor, single, piece).len();
-    if single {
-        take_apart::<true>(room, cursor, left, len)
+        close(room, cursor, single, left, piece)
+    } else if cursor.goes_on(class) {
+        take_wide(room, cursor, single, left)
     } else {
-        take_apart::<false>(room, cursor, left, len)
+        take_after(room, cursor, single, left, piece)
     }
 }

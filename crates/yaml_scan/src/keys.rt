@@ -154,8 +154,7 @@ pub(crate) fn root(outer: &[Option<candidate_t>], top: Option<candidate_t>) -> O
     }
 }
 
-/// The candidate of depth 0. `in_flow`: the present depth is above 0. Written so, the compiler knows whether it is if
-/// it knows `in_flow`.
+/// The candidate of depth 0. `in_flow`: the present depth is above 0, so that there is an outer one.
 #[inline(always)]
 pub(crate) fn root_at(
     outer: &[Option<candidate_t>],
@@ -165,7 +164,7 @@ pub(crate) fn root_at(
     requires { in_flow ≡ nat_lt 0 (length outer.now) }
     ensures { result ≡ root_of outer.now top }
 {
-    if in_flow { root(outer, top) } else { top }
+    if in_flow { outer[0] } else { top }
 }
 
 /// Changes the slot of a depth after a lexeme was read at it.

@@ -18,7 +18,7 @@ use Rattle.yaml_lexeme.specs.Classes.{is_white}
 use Rattle.yaml_lexeme.specs.Fold.{fold, written}
 use Rattle.yaml_lexeme.specs.Kind.{is_marker}
 use Rattle.yaml_lexeme.specs.Place.{Place, first, skip, run, after_run, break_len}
-use Rattle.yaml_lexeme.specs.Quoted.{body_part, unmarked}
+use Rattle.yaml_lexeme.specs.Quoted.{body_part, quote, unmarked}
 use Rattle.yaml_lexeme.specs.Reading.{Read, ◌>>=◌, go_on, many, with_front}
 use Rattle.yaml_lexeme.specs.inside.Runs.{class_test, line_of, trim}
 use Rattle.yaml_lexeme.specs.inside.Words.{GoesOn}
@@ -147,3 +147,15 @@ trimmed_goes_on single p q out new e n h whole r =
     let bytes : new ≡ out ++ utf8 (take k cs) = n ∙ ap (λ (x : List ℕ). out ++ utf8 x) (sym cut.front) in
     subst (λ (x : List ℕ). Reading utf8 (body_part single) q x whole) (sym bytes)
     (ap (λ (x : Read (List (List ℕ))). with_front (out ++ utf8 (take k cs)) (joined utf8 x)) (sym same) ∙ at_here)
+
+-- ---- quotes
+
+-- a quote may be passed
+pub quote_passes : (single : Bool) → (0 < quote single) × (quote single < 128) × (is_break (quote single) ≡ false)
+quote_passes true = (omega arith, omega arith, refl)
+quote_passes false = (omega arith, omega arith, refl)
+
+-- a quote ends what is kept unchanged
+pub quote_ends : (single : Bool) → class_test (line_of single) (quote single) ≡ false
+quote_ends true = refl
+quote_ends false = refl

@@ -27,6 +27,11 @@ abbrev pub IsPiece : Bool → Place → Place → List ℕ → Type 0
 IsPiece single p q piece =
     (q ≡ after_run (class_test (line_of single)) p) × (piece ≡ utf8 (run (class_test (line_of single)) p))
 
+-- A piece that is kept unchanged in the line at p goes on at q, and `left` are the bytes from p on.
+abbrev pub IsInLine : Bool → Place → Place → List ℕ → Type 0
+IsInLine single p q left =
+    (after_run (class_test (line_of single)) q ≡ after_run (class_test (line_of single)) p) × (left ≡ utf8 p.rest)
+
 -- What is read of the body of the quoted scalar at p is `out`, and then what is read from q on.
 abbrev pub LeadsOn : Bool → Place → List ℕ → Place → Type 0
 LeadsOn single p out q =

@@ -1,5 +1,6 @@
 use Rattle.std.proofs.Common.{◌∙◌, ap, arith, length}
 use Rattle.std.proofs.lemmas.List.{length-drop}
+use Rattle.yaml_text.specs.Chars.{utf8}
 use Rattle.yaml_lexeme.specs.Place.{Place, after_run}
 use Rattle.yaml_lexeme.specs.inside.Runs.{class_test, begins}
 use Rattle.yaml_lexeme.proofs.ManyBytes.CharacterCounts.{count_small}
@@ -22,3 +23,10 @@ returns-clause-goes c = rw c.rest-self-inside.ensures ((moved (goal.at.returns-c
 
 pub returns-clause-shorter : goal.returns-clause-shorter
 returns-clause-shorter c = rw c.rest-self-inside.ensures (omega (arith, (moved (goal.at.returns-clause-shorter c).After-quiet_len-n).shorter, ap (λ (p : Place). length p.rest) c.self.view_is))
+
+pub returns-clause-fewer : goal.returns-clause-fewer
+returns-clause-fewer c =
+    let n = c.quiet_len-n.result.0 in
+    let s = c.self.inside.bytes.now in
+    let left = (moved (goal.at.returns-clause-fewer c).After-quiet_len-n).text in
+    rw c.rest-self-inside.ensures (omega (arith, ap length left.spelled, length-drop n s, ap length c.self.invariant.0.spelled, ap (λ (p : Place). length (utf8 p.rest)) c.self.view_is))
