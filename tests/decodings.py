@@ -2,11 +2,13 @@
 """Compares decoding with a plain reading of the rules (lib/reading.py), on inputs near all borders: decodings.py PROGRAM.
 
 The program testbench, which is beside the given one, gives the text of each and the mark of its end, or what is wrong and where.
-Of the 132,400 inputs 74,721 are refused. 100,000 are made from a fixed seed, in UTF-8 and both forms of UTF-16. Each of these is
+Of the 165,664 inputs 102,393 are refused. 100,000 are made from a fixed seed, in UTF-8 and both forms of UTF-16. Each of these is
 a run of characters of one kind that is longer than the program looks at at a time, with a few pieces put in at random places:
 characters at the ends of ranges, octets and units that may not stand there, halves of pairs, and characters that are cut.
 Many are cut at the end too. Then each character at a border, and each unit with one octet of ASCII, is put at each place in
 ASCII of 15 to 33 units of UTF-16, since sixteen units are looked at at a time, in both forms, whole and without the last octet.
+And octets that may not stand there, and others, are put in at each place near the end of 64 and of 128 octets, between and in the
+place of those of UTF-8's characters of two octets, of which 64 octets are looked at at a time.
 Needs a C compiler for the last part: with every request for memory refused, forty texts are decoded from UTF-8.
 """
 
@@ -29,6 +31,12 @@ BORDERS = [0x00, 0x08, 0x09, 0x0A, 0x0B, 0x0D, 0x1F, 0x20, 0x7E, 0x7F, 0x80, 0x8
            0xFFFF, 0x10000, 0x1FFFE, 0x3FFFF, 0x40000, 0xFFFFF, 0x100000, 0x10FFFD, 0x10FFFF, 0x110000, 0x13FFFF, 0x1FFFFF]
 # units of which one octet is ASCII and the other is not 0
 MIXED = [0x10A, 0x120, 0x161, 0x6100, 0x6161, 0x7F61, 0x8061, 0xFF61]
+# octets that belong in no text, that are whole characters, or that are whole characters if the right ones are before or after them
+OCTETS = [bytes.fromhex(octets) for octets in
+          ["00", "09", "0a", "0d", "0d0a", "1f", "61", "7f", "80", "bf", "c080", "c1bf", "c2", "c280", "c285", "c29f", "c2a0", "c3",
+           "c361", "c37f", "c380bf", "dfbf", "e0", "e080", "e0a080", "e28099", "eda080", "efbfbe", "f0908080", "f4908080", "ff"]]
+# so many places of characters of one and two octets are looked at at a time
+NARROW = 64
 # what the runs are made of: the least and the greatest code point
 KINDS = [(0x61, 0x7A), (0x20, 0x7E), (0x410, 0x44F), (0xA0, 0x7FF), (0x4E00, 0x9FFF), (0x900, 0x97F), (0xE000, 0xFFBF),
          (0x1F300, 0x1F64F), (0x10000, 0xFFFFF)]
@@ -104,6 +112,18 @@ def in_blocks():
                     yield setting, data[:-1]
 
 
+def in_narrow_blocks():
+    """Characters of two octets in UTF-8, with octets between and in the place of theirs, at each place near the ends of blocks."""
+    for front in b"", b"a":
+        for letter in "\u00e9", "\u0436", "\u07ff":
+            run = front + letter.encode() * 120
+            for place in [*range(4), *range(NARROW - 6, NARROW + 8), *range(2 * NARROW - 56, 2 * NARROW + 14)]:
+                for octets in OCTETS:
+                    yield "utf8", run[:place] + octets + run[place:]
+                    yield "utf8", run[:place] + octets + run[place + len(octets) :]
+                yield "utf8", run[:place]
+
+
 def answers(program, inputs):
     lines = "".join(f"decode {setting} {data.hex() or '-'}\n" for setting, data in inputs)
     done = subprocess.run([program], input=lines.encode(), capture_output=True, check=True, timeout=600)
@@ -112,7 +132,7 @@ def answers(program, inputs):
 
 def compare(program):
     r = random.Random(SEED)
-    inputs = [make_input(r) for _ in range(COUNT)] + list(in_blocks())
+    inputs = [make_input(r) for _ in range(COUNT)] + list(in_blocks()) + list(in_narrow_blocks())
     found = answers(program, inputs)
     wanted = [reading(setting, data) for setting, data in inputs]
     wrong = [it for it in zip(inputs, found, wanted) if it[1] != it[2]]

@@ -10,6 +10,10 @@ pub mod AsciiFronts
 pub mod UnitRuns
 -- A vector that is computed lane by lane from windows of bytes is a test of each window.
 pub mod WindowLanes
+-- Tests of sixteen bytes at a time for characters of one and two bytes say what they have to of each byte.
+pub mod NarrowLanes
+-- Bytes of characters of one and two bytes have clean windows.
+pub mod NarrowRuns
 -- Bytes whose windows are clean are whole characters.
 pub mod WholeRuns
 -- Slots that are joined make what was read of UTF-16 grow by the units that they spell.

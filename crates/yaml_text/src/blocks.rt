@@ -1,9 +1,10 @@
 //! Runs of whole characters of UTF-8, many bytes at a time.
-ghost use Rattle.std.specs.Prelude.{ℕ, ◌≡◌, ◌<◌, ◌≤◌, true, false, List, length, take, slice_index};
+ghost use Rattle.std.specs.Prelude.{ℕ, ◌≡◌, ◌<◌, ◌≤◌, ◌&&◌, ◌==◌, if◌then◌else◌, true, false, max};
+ghost use Rattle.std.specs.Prelude.{List, length, take, slice_index, map};
 ghost use Rattle.yaml_text.specs.TextBytes.{IsText};
 ghost use Rattle.yaml_text.specs.Utf8.{continues};
 ghost use Rattle.yaml_text.specs.inside.Windows.{is_control, is_rare_lead, is_misplaced, is_suspect, AreClean, Starts};
-ghost use Rattle.yaml_text.specs.inside.Windows.{column, lanes};
+ghost use Rattle.yaml_text.specs.inside.Windows.{is_bounded, is_paired, AreNarrow, column, lanes};
 
 use crate::ascii::rest;
 use crate::utf8::continues;
@@ -65,6 +66,90 @@ fn are_clean(bytes: &[u8]) -> bool
     suspect.simd_ge(u8x16::splat(0x80)).to_bitmask() == 0
 }
 
+/// Which bytes a may stand before b in characters of one and two bytes. C0 to C2 and 7F are not among them.
+#[inline(always)]
+fn paired(a: u8x16, b: u8x16) -> u8x16
+    ensures { (d e : ℕ) (ts : List (List ℕ)) → a ≡ column d ts → b ≡ column e ts
+        → result ≡ lanes (λ t. is_paired (slice_index t d) (slice_index t e)) ts }
+{
+    // how far a is below the first lead, C3, up to 4: it is 4 from the last byte that continues a character down
+    let below = u8x16::splat(0xC3)
+        .saturating_sub(a)
+        .simd_min(u8x16::splat(4));
+    let continues = b.simd_ge(u8x16::splat(0x80)) & b.simd_le(u8x16::splat(0xBF));
+    let paired = below.simd_eq(continues.select(u8x16::splat(0), u8x16::splat(4)))
+        & a.simd_ne(u8x16::splat(0x7F));
+    paired.select(u8x16::splat(0xFF), u8x16::splat(0))
+}
+
+/// The bytes, with FF in place of each line feed.
+#[inline(always)]
+fn lifted(a: u8x16) -> u8x16
+    ensures { (d : ℕ) (ts : List (List ℕ)) → a ≡ column d ts
+        → result ≡ map (λ t. if slice_index t d == 10 then 255 else slice_index t d) ts }
+{
+    a.simd_eq(u8x16::splat(b'\n')).select(u8x16::splat(0xFF), a)
+}
+
+/// The greatest of each four bytes.
+#[inline(always)]
+fn greatest(a: u8x16, b: u8x16, c: u8x16, d: u8x16) -> u8x16
+    ensures { (ts : List (List ℕ)) → a ≡ column 0 ts → b ≡ column 16 ts → c ≡ column 32 ts → d ≡ column 48 ts
+        → result ≡ map (λ t.
+        max (max (slice_index t 0) (slice_index t 16)) (max (slice_index t 32) (slice_index t 48))) ts }
+{
+    a.simd_max(b).simd_max(c.simd_max(d))
+}
+
+/// Which four bytes are all below E0 and at least 20 or line feeds.
+#[inline(always)]
+fn bounded(a: u8x16, b: u8x16, c: u8x16, d: u8x16) -> u8x16
+    ensures { (ts : List (List ℕ)) → a ≡ column 0 ts → b ≡ column 16 ts → c ≡ column 32 ts → d ≡ column 48 ts
+        → result ≡ lanes (λ t.
+        (is_bounded (slice_index t 0) && is_bounded (slice_index t 16))
+        && (is_bounded (slice_index t 32) && is_bounded (slice_index t 48))) ts }
+{
+    let least = lifted(a)
+        .simd_min(lifted(b))
+        .simd_min(lifted(c).simd_min(lifted(d)));
+    let bounded = greatest(a, b, c, d).simd_lt(u8x16::splat(0xE0))
+        & least.simd_ge(u8x16::splat(0x20));
+    bounded.select(u8x16::splat(0xFF), u8x16::splat(0))
+}
+
+/// Whether each of the first 64 bytes is of a character of one or two bytes, as far as the next one tells.
+#[inline(always)]
+fn are_narrow(bytes: &[u8]) -> bool
+    requires { 65 ≤ length bytes.now }
+    ensures { result ≡ true → AreNarrow bytes.now 64 }
+{
+    let a = u8x16::from_slice(bytes);
+    let b = u8x16::from_slice(&bytes[16..]);
+    let c = u8x16::from_slice(&bytes[32..]);
+    let d = u8x16::from_slice(&bytes[48..]);
+    let first = paired(a, u8x16::from_slice(&bytes[1..]))
+        & paired(b, u8x16::from_slice(&bytes[17..]));
+    let last = paired(c, u8x16::from_slice(&bytes[33..]))
+        & paired(d, u8x16::from_slice(&bytes[49..]));
+    let narrow = bounded(a, b, c, d) & (first & last);
+    narrow.simd_lt(u8x16::splat(0x80)).to_bitmask() == 0
+}
+
+/// Whether the first 64 bytes are ASCII. It has the bytes in the vectors of `are_narrow`, so that they are loaded once.
+#[inline(always)]
+fn are_low(bytes: &[u8]) -> bool
+    requires { 64 ≤ length bytes.now }
+{
+    let a = u8x16::from_slice(bytes);
+    let b = u8x16::from_slice(&bytes[16..]);
+    let c = u8x16::from_slice(&bytes[32..]);
+    let d = u8x16::from_slice(&bytes[48..]);
+    greatest(a, b, c, d)
+        .simd_ge(u8x16::splat(0x80))
+        .to_bitmask()
+        == 0
+}
+
 /// Whether the first 64 bytes are ASCII.
 #[inline(always)]
 fn are_ascii(bytes: &[u8]) -> bool
@@ -74,6 +159,22 @@ fn are_ascii(bytes: &[u8]) -> bool
         .simd_ge(u8x64::splat(0x80))
         .to_bitmask()
         == 0
+}
+
+/// How many of the first bytes are narrow, 64 at a time, until 64 bytes are ASCII.
+#[inline(always)]
+fn narrow_len(bytes: &[u8]) -> usize
+    ensures narrow { AreNarrow bytes.now result }
+    ensures within { result ≤ length bytes.now }
+{
+    let mut i = 0;
+    'narrow: while bytes.len() - i >= 65 && are_narrow(rest(bytes, i)) {
+        i += 64;
+        if are_low(rest(bytes, i - 64)) {
+            return i;
+        }
+    }
+    i
 }
 
 /// Whether each of the first 64 places is clean.
@@ -103,13 +204,28 @@ fn far_clean_len(bytes: &[u8]) -> usize
     i
 }
 
+/// How many of the first places are clean, 64 at a time: those that are narrow, then others, until 64 bytes are ASCII.
+#[inline(always)]
+fn long_clean_len(bytes: &[u8]) -> usize
+    ensures clean { AreClean bytes.now result }
+    ensures within { result ≤ length bytes.now }
+{
+    let narrow = narrow_len(bytes);
+    // a place is clean by four bytes, and the fourth is looked at two bytes later
+    let i = narrow.saturating_sub(2);
+    if narrow >= 64 && are_ascii(rest(bytes, narrow - 64)) {
+        return i;
+    }
+    i + far_clean_len(rest(bytes, i))
+}
+
 /// How many of the first places are clean, as far as they are looked at.
 #[inline(always)]
 fn clean_len(bytes: &[u8]) -> usize
     ensures clean { AreClean bytes.now result }
     ensures within { result ≤ length bytes.now }
 {
-    let mut i = far_clean_len(bytes);
+    let mut i = long_clean_len(bytes);
     if bytes.len() - i >= 67 {
         return i;
     }

@@ -1,6 +1,6 @@
 -- Four bytes in a row, at each of many places at once: a place is clean if its tests succeed. Where every place is
 -- clean, the bytes are whole characters from the first of them on.
-use Rattle.std.specs.Prelude.{ℕ, ◌≡◌, ◌<◌, Bool, ◌&&◌, ◌||◌, nat_lt, nat_le, ◌==◌, not, if◌then◌else◌, false}
+use Rattle.std.specs.Prelude.{ℕ, ◌≡◌, ◌<◌, Bool, ◌&&◌, ◌||◌, nat_lt, nat_le, ◌==◌, not, if◌then◌else◌, true, false}
 use Rattle.std.specs.Prelude.{List, map, drop, slice_index}
 use Rattle.yaml_text.specs.Utf8.{continues}
 
@@ -38,6 +38,24 @@ is_suspect t =
 -- The first n places are clean.
 abbrev pub AreClean : List ℕ → ℕ → Type 0
 AreClean bytes n = (k : ℕ) → k < n → is_suspect (drop k bytes) ≡ false
+
+-- An octet below 0xE0 that is no control of ASCII below 0x20, but for the line feed.
+abbrev pub is_bounded : ℕ → Bool
+is_bounded a = nat_lt a 0xE0 && (nat_le 0x20 a || a == 10)
+
+-- What is before an octet that continues a character is a lead from 0xC3 on, and what is before another is below all
+-- leads. 0x7F is before neither of them.
+abbrev pub is_paired : ℕ → ℕ → Bool
+is_paired a b = (if continues b then nat_le 0xC3 a else nat_lt a 0xC0) && not (a == 0x7F)
+
+-- The first two octets may stand so in characters of one and two octets. Tab, carriage return and the characters that
+-- 0xC2 begins are left out.
+abbrev pub is_narrow : List ℕ → Bool
+is_narrow t = is_bounded (slice_index t 0) && is_paired (slice_index t 0) (slice_index t 1)
+
+-- The first n octets are narrow.
+abbrev pub AreNarrow : List ℕ → ℕ → Type 0
+AreNarrow bytes n = (k : ℕ) → k < n → is_narrow (drop k bytes) ≡ true
 
 -- The first three bytes are as after a whole character.
 pub record Starts (bytes : List ℕ) : Type 0 where
