@@ -146,7 +146,8 @@ fn kind_at(cursor: &cursor_t, in_flow: bool) -> Option<yaml_lexeme_kind_t>
         ']' => yaml_lexeme_kind_t::FLOW_SEQUENCE_END,
         '}' => yaml_lexeme_kind_t::FLOW_MAPPING_END,
         ',' => yaml_lexeme_kind_t::FLOW_ENTRY,
-        '-' if check_at!(cursor, ' ', 1) || is_at!(cursor, ends, 1) => yaml_lexeme_kind_t::BLOCK_ENTRY,
+        '-' if check_at!(cursor, ' ', 1) || is_at!(cursor, ends, 1) =>
+            yaml_lexeme_kind_t::BLOCK_ENTRY,
         '-' if is_marker_of(cursor, '-') => yaml_lexeme_kind_t::DOCUMENT_START,
         '.' if is_marker_of(cursor, '.') => yaml_lexeme_kind_t::DOCUMENT_END,
         '?' if in_flow || is_at!(cursor, ends, 1) => yaml_lexeme_kind_t::KEY,

@@ -534,7 +534,8 @@ impl<'a> cursor_t<'a> {
     #[inline(always)]
     pub fn near_run(&mut self, class: class_t) -> &'a [u8]
         ensures goes { after_run (class_test class) self.new ≡ after_run (class_test class) self.old }
-        ensures value { class_test class (first self.new) ≡ false → result.now ≡ utf8 (run (class_test class) self.old) }
+        ensures value { class_test class (first self.new) ≡ false
+            → result.now ≡ utf8 (run (class_test class) self.old) }
     {
         let start = self.left();
         self.skip_quiet(class, false);

@@ -388,7 +388,8 @@ fn close(
     left: &[u8],
     piece: &[u8],
 ) -> Result<Vec<u8>, yaml_refusal_t>
-    requires piece { (p : Place) × (IsPiece single (skip 1 p) cursor.old piece.now × (left.now ≡ utf8 (skip 1 p).rest)) }
+    requires piece { (p : Place)
+        × (IsPiece single (skip 1 p) cursor.old piece.now × (left.now ≡ utf8 (skip 1 p).rest)) }
     requires here { first cursor.old ≡ spec.quote single }
     requires over { spec.body_part single cursor.old ≡ over }
     ensures { (p : Place) → IsPiece single (skip 1 p) cursor.old piece.now → left.now ≡ utf8 (skip 1 p).rest

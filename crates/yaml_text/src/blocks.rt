@@ -161,12 +161,16 @@ fn are_ascii(bytes: &[u8]) -> bool
         == 0
 }
 
-/// How many of the first bytes are narrow, 64 at a time, until 64 bytes are ASCII.
+/// How many of the first bytes are narrow, 64 at a time, until 64 bytes are ASCII. None are looked at if a character of
+/// more than two bytes is first.
 #[inline(always)]
 fn narrow_len(bytes: &[u8]) -> usize
     ensures narrow { AreNarrow bytes.now result }
     ensures within { result ≤ length bytes.now }
 {
+    if !bytes.is_empty() && bytes[0] >= 0xE0 {
+        return 0;
+    }
     let mut i = 0;
     'narrow: while bytes.len() - i >= 65 && are_narrow(rest(bytes, i)) {
         i += 64;

@@ -1,9 +1,9 @@
-use Rattle.std.proofs.Common.{◌≡◌, ℕ, Bool, true, false, List, ◌∙◌, refl, [], sym, ap, take, length, arith}
+use Rattle.std.proofs.Common.{◌≡◌, ℕ, false, List, ◌∙◌, refl, [], sym, ap, take, length, arith}
 use Rattle.yaml_text.specs.Chars.{utf8}
 use Rattle.yaml_text.specs.Classes.{is_break}
-use Rattle.yaml_lexeme.specs.Place.{Place, first, skip}
-use Rattle.yaml_lexeme.specs.Quoted.{quote, body_part, spelled}
-use Rattle.yaml_lexeme.specs.Reading.{many, over}
+use Rattle.yaml_lexeme.specs.Place.{first, skip}
+use Rattle.yaml_lexeme.specs.Quoted.{body_part, spelled}
+use Rattle.yaml_lexeme.specs.Reading.{many}
 use Rattle.yaml_lexeme.proofs.Readers.QuotedBody.{body_shortens, quoted_all}
 use Rattle.yaml_lexeme.proofs.Readers.QuotedLines.{quote_passes, run_goes_on}
 use Rattle.yaml_lexeme.proofs.Readers.LineFronts.{piece_front}

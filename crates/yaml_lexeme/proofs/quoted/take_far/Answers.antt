@@ -1,4 +1,4 @@
-use Rattle.std.proofs.Common.{◌≡◌, ℕ, ◌-◌, ◌≤◌, Bool, not, List, ◌∙◌, refl, sym, ap, take, length}
+use Rattle.std.proofs.Common.{◌≡◌, ℕ, ◌-◌, ◌≤◌, Bool, not, List, ◌∙◌, refl, ap, take, length}
 use Rattle.std.specs.Prelude.{nat_eq}
 use Rattle.yaml_text.specs.Chars.{utf8}
 use Rattle.yaml_lexeme.specs.Place.{Place, after_run, skip}

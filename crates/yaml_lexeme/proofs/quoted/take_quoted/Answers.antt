@@ -1,4 +1,4 @@
-use Rattle.std.proofs.Common.{◌≡◌, ℕ, false, List, ◌∙◌, sym, ap}
+use Rattle.std.proofs.Common.{◌≡◌, false, ◌∙◌, sym, ap}
 use Rattle.yaml_text.specs.Chars.{utf8}
 use Rattle.yaml_lexeme.specs.Place.{Place, first, skip, after_run, run}
 use Rattle.yaml_lexeme.specs.inside.Runs.{class_test, line_of}

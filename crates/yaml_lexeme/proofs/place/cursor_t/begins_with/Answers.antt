@@ -1,4 +1,4 @@
-use Rattle.std.proofs.Common.{◌≡◌, ℕ, ◌<◌, ◌∙◌, sym, eqb-true, get_or, arith}
+use Rattle.std.proofs.Common.{◌≡◌, ◌<◌, ◌∙◌, sym, eqb-true, get_or, arith}
 use Rattle.yaml_lexeme.proofs.Places.CursorMoves.{ascii_here}
 use Rattle.yaml_lexeme.proofs.place.cursor_t.begins_with.Goals as goal
 
