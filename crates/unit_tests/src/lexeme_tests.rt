@@ -864,7 +864,6 @@ fn block_values(rt: HostRuntime) -> Result<(), Fail> {
     expect_rows(&rt, rt.alloc(), &rows)
 }
 
-/// Anchors and aliases.
 /// Compares a literal and a folded scalar with what is wanted: a line of x, then what is between, then y up to a line
 /// feed. Of what is between the literal one keeps `kept`, and the folded one `folded`.
 fn expect_lines(
@@ -972,6 +971,7 @@ fn ends_of_block_scalars(rt: HostRuntime) -> Result<(), Fail> {
     expect_rows(&rt, rt.alloc(), &rows)
 }
 
+/// Anchors and aliases.
 #[test]
 fn names(rt: HostRuntime) -> Result<(), Fail> {
     let rows: [(&str, u64, Option<u64>, &str); 11] = [

@@ -530,7 +530,7 @@ impl<'a> cursor_t<'a> {
         front(start, start.len() - left.len())
     }
 
-    /// Takes characters of a run of the class, up to a byte that ends it or needs a closer look, and returns their bytes.
+    /// Takes characters of a run of the class, up to a byte that ends it or needs a closer look. Returns their bytes.
     #[inline(always)]
     pub fn near_run(&mut self, class: class_t) -> &'a [u8]
         ensures goes { after_run (class_test class) self.new ≡ after_run (class_test class) self.old }
