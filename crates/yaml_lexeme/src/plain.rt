@@ -331,16 +331,6 @@ fn take_lines(
     }
 }
 
-/// Whether the scalar ends here without a separator: in flow, before a bracket or a comma.
-#[inline(always)]
-fn ends_here(cursor: &cursor_t, in_flow: bool) -> bool
-    ensures fine { result ≡ true → spec.is_bad_colon in_flow (first cursor.now) (peek cursor.now 1) ≡ false }
-    ensures solid { result ≡ true → sets.is_white (first cursor.now) ≡ false }
-    ensures unbroken { result ≡ true → list_any classes.is_break (run sets.is_white cursor.now) ≡ false }
-{
-    in_flow && is_at!(cursor, is_flow_indicator, 0)
-}
-
 /// Takes a plain scalar. `least` is the least column of a line that goes on. Its value is put into `room` if it fits.
 #[inline(always)]
 pub(crate) fn take_plain(
@@ -353,16 +343,6 @@ pub(crate) fn take_plain(
 {
     let left = cursor.left();
     let len = line_words(cursor, in_flow, least).len();
-    if ends_here(cursor, in_flow) {
-        return match copied_front(room, left, len) {
-            Ok(value) => Ok(scalar_t {
-                value,
-                end: cursor.mark(),
-                passed_break: false,
-            }),
-            Err(refusal) => Err(refused(refusal)),
-        };
-    }
     if is_bad_colon(cursor, in_flow) {
         return Err(offence(yaml_problem_t::COLON_IN_FLOW));
     }

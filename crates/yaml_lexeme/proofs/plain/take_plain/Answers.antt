@@ -1,13 +1,11 @@
 use Rattle.std.proofs.Common.{◌≡◌, ℕ, List, ◌∙◌, refl, true, false, sym, ap, take, length}
 use Rattle.yaml_lexeme.specs.declared.problem.yaml_problem_t.TheVariants.{COLON_IN_FLOW}
 use Rattle.yaml_lexeme.specs.declared.problem.yaml_refusal_t.TheVariants.{OFFENCE}
-use Rattle.yaml_lexeme.specs.Classes.{is_white}
 use Rattle.yaml_lexeme.specs.Place.{Place, first, peek}
 use Rattle.yaml_lexeme.specs.Plain.{is_bad_colon}
 use Rattle.yaml_lexeme.specs.Reading.{with_front}
 use Rattle.yaml_lexeme.specs.inside.Words.{links, words}
-use Rattle.yaml_lexeme.proofs.Places.PlaceMoves.{after_none}
-use Rattle.yaml_lexeme.proofs.Readers.PlainLinks.{link_none, scalar_ends}
+use Rattle.yaml_lexeme.proofs.Readers.PlainLinks.{scalar_ends}
 use Rattle.yaml_lexeme.proofs.Readers.PlainLines.{plain_none, plain_words, words_colon, plain_out, links_end}
 use Rattle.yaml_lexeme.proofs.Parts.PartByPart.{no_front}
 use Rattle.yaml_lexeme.proofs.plain.take_plain.Goals as goal
@@ -20,21 +18,6 @@ returns-then-is_bad_colon c =
     rw c.offence.ensures (plain_none (OFFENCE COLON_IN_FLOW) c.args.in_flow c.args.least p q
     (no_front (words c.args.in_flow c.args.least p) ∙ c.line_words-len.ensures.goes ∙ ap (with_front c.line_words-len.result.now) (words_colon c.args.in_flow c.args.least q c.line_words-len.ensures.over bad)))
 
-pub returns-in-Ok : goal.returns-in-Ok
-returns-in-Ok c =
-    let flow = c.args.in_flow in
-    let least = c.args.least in
-    let p = c.args.cursor.now in
-    let q = c.line_words-len.new.cursor in
-    let piece = c.line_words-len.result.now in
-    let out = c.in-Ok.value.items in
-    let fine : is_bad_colon flow (first q) (peek q 1) ≡ false = c.ends_here.ensures.fine c.if-ends_here.true in
-    let solid : is_white (first q) ≡ false = c.ends_here.ensures.solid c.if-ends_here.true in
-    let same : out ≡ piece = c.in-Ok.ensures ∙ ap (λ (x : List ℕ). take (length piece) x) c.left-left.ensures ∙ sym c.line_words-len.ensures.front in
-    let read = plain_out flow least p q out piece c.line_words-len.ensures.goes c.line_words-len.ensures.over fine same in
-    let all = plain_words flow least p q out (read ∙ links_end flow least q out (link_none flow least q solid)) in
-    scalar_ends flow least p q q out c.mark.result false all c.mark.ensures.value (sym (c.ends_here.ensures.unbroken c.if-ends_here.true)) (sym (after_none is_white q solid))
-
 pub returns-in-Some : goal.returns-in-Some
 returns-in-Some c =
     let flow = c.args.in_flow in
@@ -42,9 +25,9 @@ returns-in-Some c =
     let p = c.args.cursor.now in
     let q = c.line_words-len.new.cursor in
     let piece = c.line_words-len.result.now in
-    let out = c.in-Ok-copied_front.value.items in
+    let out = c.in-Ok.value.items in
     let fine : is_bad_colon flow (first q) (peek q 1) ≡ false = cc in
-    let same : out ≡ piece = c.in-Ok-copied_front.ensures ∙ ap (λ (x : List ℕ). take (length piece) x) c.left-left.ensures ∙ sym c.line_words-len.ensures.front in
+    let same : out ≡ piece = c.in-Ok.ensures ∙ ap (λ (x : List ℕ). take (length piece) x) c.left-left.ensures ∙ sym c.line_words-len.ensures.front in
     let read = plain_out flow least p q out piece c.line_words-len.ensures.goes c.line_words-len.ensures.over fine same in
     let all = plain_words flow least p q out (read ∙ links_end flow least q out c.in-Some.ensures.over) in
     scalar_ends flow least p q c.ends_at_once.new.cursor out c.mark-end.result c.in-Some.passed_break all c.mark-end.ensures.value c.in-Some.ensures.broken c.in-Some.ensures.end
@@ -56,9 +39,9 @@ returns-in-None c =
     let p = c.args.cursor.now in
     let q = c.line_words-len.new.cursor in
     let piece = c.line_words-len.result.now in
-    let out = c.in-Ok-copied_front.value.items in
+    let out = c.in-Ok.value.items in
     let fine : is_bad_colon flow (first q) (peek q 1) ≡ false = cc in
-    let same : out ≡ piece = c.in-Ok-copied_front.ensures ∙ ap (λ (x : List ℕ). take (length piece) x) c.left-left.ensures ∙ sym c.line_words-len.ensures.front in
+    let same : out ≡ piece = c.in-Ok.ensures ∙ ap (λ (x : List ℕ). take (length piece) x) c.left-left.ensures ∙ sym c.line_words-len.ensures.front in
     let read = plain_out flow least p q out piece c.line_words-len.ensures.goes c.line_words-len.ensures.over fine same in
     let stays : c.ends_at_once.new.cursor ≡ q = c.in-None.ensures.stays refl in
     c.take_lines.ensures p (read ∙ ap (λ (r : Place). with_front out (links flow least r)) (sym stays))
