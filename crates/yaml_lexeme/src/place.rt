@@ -249,8 +249,8 @@ impl<'a> cursor_t<'a> {
         first_char(left)
     }
 
-    /// Whether the first byte that is left is this one. Then the character is here that it spells, which is told sooner
-    /// than the character.
+    /// Whether the first byte that is left is this one, of ASCII. If it is, its character is here. That is cheaper than
+    /// to read the character.
     #[inline(always)]
     pub fn begins_with(&self, byte: u8) -> bool
         requires { byte < 0x80 }
@@ -399,7 +399,7 @@ impl<'a> cursor_t<'a> {
         front(start.bytes, start.bytes.len() - self.bytes.len())
     }
 
-    /// The bytes up to this place of those that are left of the text at an earlier one.
+    /// What is left of the text at an earlier place, up to this place.
     #[inline(always)]
     pub fn between(&self, start: &'a [u8]) -> &'a [u8]
         requires { length (utf8 self.now.rest) ≤ length start.now }

@@ -41,6 +41,7 @@ fn unmarked(cursor: &cursor_t) -> Result<bool, yaml_refusal_t>
     }
 }
 
+/// The byte of the quote.
 #[inline(always)]
 fn quote_byte(single: bool) -> u8
     ensures { result ≡ spec.quote single }

@@ -215,7 +215,7 @@ fn long_clean_len(bytes: &[u8]) -> usize
     ensures within { result ≤ length bytes.now }
 {
     let narrow = narrow_len(bytes);
-    // a place is clean by four bytes, and the fourth is looked at two bytes later
+    // a place is clean by the four bytes from it on, and narrow by two: so the last two are looked at again
     let i = narrow.saturating_sub(2);
     if narrow >= 64 && are_ascii(rest(bytes, narrow - 64)) {
         return i;

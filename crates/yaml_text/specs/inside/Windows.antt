@@ -43,8 +43,8 @@ AreClean bytes n = (k : ℕ) → k < n → is_suspect (drop k bytes) ≡ false
 abbrev pub is_bounded : ℕ → Bool
 is_bounded a = nat_lt a 0xE0 && (nat_le 0x20 a || a == 10)
 
--- What is before an octet that continues a character is a lead from 0xC3 on, and what is before another is below all
--- leads. 0x7F is before neither of them.
+-- The octet a may stand before b: a lead from 0xC3 on before one that continues a character, and no lead before
+-- another. 0x7F, which no text holds, is left out.
 abbrev pub is_paired : ℕ → ℕ → Bool
 is_paired a b = (if continues b then nat_le 0xC3 a else nat_lt a 0xC0) && not (a == 0x7F)
 
