@@ -67,13 +67,19 @@ def body_of(lines):
 
 @functools.cache
 def module(crate, name):
-    """The path of each name that the `use` lines of a module bring, and the body of each of its functions, the first of a name."""
+    """The path of each name that the `use` lines of a module bring, and the body of each of its functions, the first of a name.
+
+    Of a function without `self` that a trait declares it is the body that the first `impl` after it gives.
+    """
     text, brought, lines, current, margin = read(f"crates/{crate}/src/{name}.rt"), {}, {}, None, ""
     for path, names in re.findall(r"^(?:pub )?use ([\w:]+?)::(\w+|\{[^}]*\});", text, re.M):
         brought.update({word: path for word in re.findall(r"\w+", names)})
     for line in text.split("\n"):
         begun = FUNCTION.match(line)
         if begun:
+            own = lines.get(begun[2])
+            if own and body_of(own) is None and not re.search(r"\bself\b", "\n".join(own)):
+                del lines[begun[2]]
             margin, current = begun[1], begun[2] if begun[2] not in lines else None
         if current:
             lines.setdefault(current, []).append(line)
@@ -96,7 +102,8 @@ def home(crate, path, name):
 def called(crate, name, function):
     """The functions that the body of a function calls, in order, each with its crate and module.
 
-    A method is that of this module or of one that a type comes from, and of a trait if one of these declares it.
+    A method is that of this module or of one that a type comes from, and of a trait if one of these declares it. A function of a
+    type parameter is that of this module.
     """
     brought, functions = module(crate, name)
     homes = {word: home(crate, path, word) for word, path in brought.items()}
@@ -109,6 +116,8 @@ def called(crate, name, function):
             yield (*homes[word], inner or word)
         elif word in functions and not inner:
             yield crate, name, word
+        elif inner in functions and len(word) == 1:
+            yield crate, name, inner
 
 
 def made_by(crate, name, function):

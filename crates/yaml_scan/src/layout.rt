@@ -413,40 +413,6 @@ pub(crate) fn end_laid<const DIRECT: bool, S: yaml_token_sink_t>(
     }
 }
 
-/// Lays what was read for a step whose groups go into the queue. Returns what was laid, and its token.
-#[inline(always)]
-pub(crate) fn lay_queued(
-    text: &yaml_text_t,
-    state: &mut state_t,
-    step: step_t,
-    read: Result<yaml_lexeme_t, yaml_refusal_t>,
-) -> Result<(laid_t, yaml_token_t), stop_t>
-    ghost before: { List Laid }
-    requires { CanRead before (scanner_of text.now state.old) step
-        × IsReadIn (scanner_of text.now state.old) step.kind step.context state.old.there read }
-    ensures { MatchResult result (λ r. WasLaid before (scanner_of text.now state.old)
-        (scanner_of text.now state.new) false r.0 r.1)
-        (λ stop. Refuses before (scanner_of text.now state.old) (scanner_of text.now state.new) stop) }
-{
-    lay_read::<false, no_sink_t>(text, state, &no_sink_t {}, step, read)
-}
-
-/// Ends a step with what it has laid, which goes into the queue with its token.
-#[inline(always)]
-pub(crate) fn end_laid_queued(
-    state: &mut state_t,
-    laid: laid_t,
-    token: yaml_token_t,
-) -> Result<(), stop_t>
-    requires { (text : Text) × (before : List Laid) × ((start : Scanner) × WasLaid before start
-        (scanner_of text state.old) false laid token) }
-    ensures { (text : Text) (before : List Laid) (start : Scanner) → WasLaid before start
-        (scanner_of text state.old) false laid token
-        → IsStep before start (scanner_of text state.new) result }
-{
-    end_laid::<false, no_sink_t>(state, &mut no_sink_t {}, laid, token)
-}
-
 /// Ends a step with a lexeme that was read and needs nothing of what comes after it. Its group goes into the queue.
 #[inline(always)]
 pub(crate) fn end_queued(

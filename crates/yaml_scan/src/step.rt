@@ -4,8 +4,8 @@ ghost use Rattle.std.specs.Prelude.{Bool, List, ◌≡◌, ◌⊎◌, true, Matc
 ghost use Rattle.yaml_text.specs.Fault.{memory_fault};
 ghost use Rattle.yaml_text.specs.Text.{Text};
 ghost use Rattle.yaml_lexeme.specs.declared.kind.yaml_lexeme_kind_t.{yaml_lexeme_kind_t};
-ghost use Rattle.yaml_lexeme.specs.KindSets.{block_kind, is_character, marker_kind, name_kind, quoted_kind};
-ghost use Rattle.yaml_lexeme.specs.declared.kind.yaml_lexeme_kind_t.TheVariants.{DIRECTIVE, PLAIN, STREAM_END, TAG};
+ghost use Rattle.yaml_lexeme.specs.KindSets.{is_character, marker_kind};
+ghost use Rattle.yaml_lexeme.specs.declared.kind.yaml_lexeme_kind_t.TheVariants.{STREAM_END};
 ghost use Rattle.yaml_scan.specs.Laid.{Laid};
 ghost use Rattle.yaml_scan.specs.inside.Scanner.{scanner_of};
 ghost use Rattle.yaml_scan.specs.inside.Scanning.{Beside, CanRead, Comes, HasRoom, IsMet, Refuses, Stays, allowed_in};
@@ -17,12 +17,13 @@ use crate::allowed::is_key_allowed;
 use crate::depth::is_flow_start;
 use crate::keys::{is_lost, root_at};
 use crate::kind::step_t;
-use crate::layout::{end_character, end_laid, end_laid_queued, end_queued, lay_queued, lay_read};
+use crate::layout::{end_character, end_laid, end_queued, lay_read};
 use crate::scanner::{cleared_by, refused_by, state_t, step_of};
 use crate::sink::{no_sink_t, yaml_token_sink_t};
 use crate::source::{
-    gap_end, kind_at, read_block, read_character, read_directive, read_marker, read_name,
-    read_plain, read_quoted, read_stream_end, read_tag,
+    block_reader_t, directive_reader_t, gap_end, kind_at, name_reader_t, plain_reader_t,
+    quoted_reader_t, read_character, read_lexeme, read_marker, read_stream_end, reader_t,
+    tag_reader_t,
 };
 use crate::stop::{stop_at_kind, stop_at_start, stop_in_gap, stop_t, stop_without_kind, stopped};
 use yaml_lexeme::yaml_lexeme_kind_t;
@@ -128,36 +129,24 @@ pub(crate) fn begin_step(
     }
 }
 
-/// The kind of a quoted scalar.
-#[inline(always)]
-fn quoted_kind(single: bool) -> yaml_lexeme_kind_t
-    ensures { result ≡ quoted_kind single }
-{
-    if single {
-        yaml_lexeme_kind_t::SINGLE_QUOTED
-    } else {
-        yaml_lexeme_kind_t::DOUBLE_QUOTED
-    }
-}
-
-/// Makes the step of a plain scalar.
+/// Makes the step of a lexeme that may be refused, of the kind of a reader.
 #[inline(never)]
-fn step_plain<const IN_FLOW: bool, const DIRECT: bool, S: yaml_token_sink_t>(
+fn step_lexeme<R: reader_t, const IN_FLOW: bool, const DIRECT: bool, S: yaml_token_sink_t>(
     text: &yaml_text_t,
     state: &mut state_t,
     sink: &mut S,
 ) -> Result<(), stop_t>
     ghost before: { List Laid }
-    requires { Comes before (scanner_of text.now state.old) IN_FLOW PLAIN }
+    requires { Comes before (scanner_of text.now state.old) IN_FLOW R.KIND }
     ensures steps { StepsTo before (scanner_of text.now state.old) (scanner_of text.now state.new) DIRECT
         (λ tokens. S.took sink.old tokens sink.new)
         S.may_refuse result }
     ensures within { OnOk result (S.within sink.old → S.within sink.new) }
 {
-    match begin_step(text, state, IN_FLOW, yaml_lexeme_kind_t::PLAIN) {
+    match begin_step(text, state, IN_FLOW, R::KIND) {
         Ok(step) => {
             let room = sink.room(state.alloc);
-            let read = read_plain(room, text, state, step.context);
+            let read = read_lexeme::<R>(room, text, state, step.context);
             match lay_read::<DIRECT, S>(text, state, sink, step, read) {
                 Ok((laid, token)) => end_laid::<DIRECT, S>(state, sink, laid, token),
                 Err(stop) => Err(stopped(stop)),
@@ -167,123 +156,18 @@ fn step_plain<const IN_FLOW: bool, const DIRECT: bool, S: yaml_token_sink_t>(
     }
 }
 
-/// Makes the step of a scalar in single or double quotes.
-#[inline(never)]
-fn step_quoted<const IN_FLOW: bool, const SINGLE: bool, const DIRECT: bool, S: yaml_token_sink_t>(
-    text: &yaml_text_t,
-    state: &mut state_t,
-    sink: &mut S,
-) -> Result<(), stop_t>
-    ghost before: { List Laid }
-    requires { Comes before (scanner_of text.now state.old) IN_FLOW (quoted_kind SINGLE) }
-    ensures steps { StepsTo before (scanner_of text.now state.old) (scanner_of text.now state.new) DIRECT
-        (λ tokens. S.took sink.old tokens sink.new)
-        S.may_refuse result }
-    ensures within { OnOk result (S.within sink.old → S.within sink.new) }
-{
-    match begin_step(text, state, IN_FLOW, quoted_kind(SINGLE)) {
-        Ok(step) => {
-            let room = sink.room(state.alloc);
-            let read = read_quoted(room, text, state, SINGLE, step.context);
-            match lay_read::<DIRECT, S>(text, state, sink, step, read) {
-                Ok((laid, token)) => end_laid::<DIRECT, S>(state, sink, laid, token),
-                Err(stop) => Err(stopped(stop)),
-            }
-        }
-        Err(stop) => Err(stopped(stop)),
-    }
-}
-
-/// The kind of a literal or folded scalar.
+/// Makes the step of a lexeme that may be refused, of the kind of a reader. Its group goes into the queue, so one
+/// function serves every sink.
 #[inline(always)]
-fn block_kind(folded: bool) -> yaml_lexeme_kind_t
-    ensures { result ≡ block_kind folded }
-{
-    if folded {
-        yaml_lexeme_kind_t::FOLDED
-    } else {
-        yaml_lexeme_kind_t::LITERAL
-    }
-}
-
-/// Makes the step of a literal or folded scalar.
-#[inline(never)]
-fn step_block<const IN_FLOW: bool, const FOLDED: bool, const DIRECT: bool, S: yaml_token_sink_t>(
-    text: &yaml_text_t,
-    state: &mut state_t,
-    sink: &mut S,
-) -> Result<(), stop_t>
-    ghost before: { List Laid }
-    requires { Comes before (scanner_of text.now state.old) IN_FLOW (block_kind FOLDED) }
-    ensures steps { StepsTo before (scanner_of text.now state.old) (scanner_of text.now state.new) DIRECT
-        (λ tokens. S.took sink.old tokens sink.new)
-        S.may_refuse result }
-    ensures within { OnOk result (S.within sink.old → S.within sink.new) }
-{
-    match begin_step(text, state, IN_FLOW, block_kind(FOLDED)) {
-        Ok(step) => {
-            let room = sink.room(state.alloc);
-            let read = read_block(room, text, state, FOLDED, step.context);
-            match lay_read::<DIRECT, S>(text, state, sink, step, read) {
-                Ok((laid, token)) => end_laid::<DIRECT, S>(state, sink, laid, token),
-                Err(stop) => Err(stopped(stop)),
-            }
-        }
-        Err(stop) => Err(stopped(stop)),
-    }
-}
-
-/// The kind of an anchor or an alias.
-#[inline(always)]
-fn name_kind(anchor: bool) -> yaml_lexeme_kind_t
-    ensures { result ≡ name_kind anchor }
-{
-    if anchor {
-        yaml_lexeme_kind_t::ANCHOR
-    } else {
-        yaml_lexeme_kind_t::ALIAS
-    }
-}
-
-/// Makes the step of an anchor or an alias. Its group goes into the queue, so one function serves every sink.
-#[inline(never)]
-fn step_name<const IN_FLOW: bool, const ANCHOR: bool>(
+fn step_queued<R: reader_t, const IN_FLOW: bool>(
     text: &yaml_text_t,
     state: &mut state_t,
 ) -> Result<(), stop_t>
     ghost before: { List Laid }
-    requires { Comes before (scanner_of text.now state.old) IN_FLOW (name_kind ANCHOR) }
+    requires { Comes before (scanner_of text.now state.old) IN_FLOW R.KIND }
     ensures { IsStep before (scanner_of text.now state.old) (scanner_of text.now state.new) result }
 {
-    match begin_step(text, state, IN_FLOW, name_kind(ANCHOR)) {
-        Ok(step) => {
-            let read = read_name(text, state, ANCHOR, step.context);
-            match lay_queued(text, state, step, read) {
-                Ok((laid, token)) => end_laid_queued(state, laid, token),
-                Err(stop) => Err(stopped(stop)),
-            }
-        }
-        Err(stop) => Err(stopped(stop)),
-    }
-}
-
-/// Makes the step of a tag. Its group goes into the queue, so one function serves every sink.
-#[inline(never)]
-fn step_tag<const IN_FLOW: bool>(text: &yaml_text_t, state: &mut state_t) -> Result<(), stop_t>
-    ghost before: { List Laid }
-    requires { Comes before (scanner_of text.now state.old) IN_FLOW TAG }
-    ensures { IsStep before (scanner_of text.now state.old) (scanner_of text.now state.new) result }
-{
-    match begin_step(text, state, IN_FLOW, yaml_lexeme_kind_t::TAG) {
-        Ok(step) => {
-            let read = read_tag(text, state, step.context);
-            match lay_queued(text, state, step, read) {
-                Ok((laid, token)) => end_laid_queued(state, laid, token),
-                Err(stop) => Err(stopped(stop)),
-            }
-        }
-        Err(stop) => Err(stopped(stop)),
-    }
+    step_lexeme::<R, IN_FLOW, false, no_sink_t>(text, state, &mut no_sink_t {})
 }
 
 /// Makes the step of a lexeme of one character.
@@ -362,28 +246,6 @@ fn step_stream_end<const IN_FLOW: bool>(
     }
 }
 
-/// Makes the step of a directive. Its group goes into the queue, so one function serves every sink.
-#[inline(never)]
-fn step_directive<const IN_FLOW: bool>(
-    text: &yaml_text_t,
-    state: &mut state_t,
-) -> Result<(), stop_t>
-    ghost before: { List Laid }
-    requires { Comes before (scanner_of text.now state.old) IN_FLOW DIRECTIVE }
-    ensures { IsStep before (scanner_of text.now state.old) (scanner_of text.now state.new) result }
-{
-    match begin_step(text, state, IN_FLOW, yaml_lexeme_kind_t::DIRECTIVE) {
-        Ok(step) => {
-            let read = read_directive(text, state, step.context);
-            match lay_queued(text, state, step, read) {
-                Ok((laid, token)) => end_laid_queued(state, laid, token),
-                Err(stop) => Err(stopped(stop)),
-            }
-        }
-        Err(stop) => Err(stopped(stop)),
-    }
-}
-
 /// Makes the step of a lexeme of a kind, after the gap. Scalars and rare kinds have functions of their own, so that no
 /// kind pays for the room that another needs. Common kinds are constants there.
 #[inline(always)]
@@ -401,18 +263,24 @@ fn step_kind<const IN_FLOW: bool, const DIRECT: bool, S: yaml_token_sink_t>(
     ensures within { OnOk result (S.within sink.old → S.within sink.new) }
 {
     match kind {
-        yaml_lexeme_kind_t::PLAIN => step_plain::<IN_FLOW, DIRECT, S>(text, state, sink),
-        yaml_lexeme_kind_t::SINGLE_QUOTED => step_quoted::<IN_FLOW, true, DIRECT, S>(
-            text, state, sink,
-        ),
-        yaml_lexeme_kind_t::DOUBLE_QUOTED => step_quoted::<IN_FLOW, false, DIRECT, S>(
-            text, state, sink,
-        ),
-        yaml_lexeme_kind_t::LITERAL => step_block::<IN_FLOW, false, DIRECT, S>(text, state, sink),
-        yaml_lexeme_kind_t::FOLDED => step_block::<IN_FLOW, true, DIRECT, S>(text, state, sink),
-        yaml_lexeme_kind_t::ALIAS => step_name::<IN_FLOW, false>(text, state),
-        yaml_lexeme_kind_t::ANCHOR => step_name::<IN_FLOW, true>(text, state),
-        yaml_lexeme_kind_t::TAG => step_tag::<IN_FLOW>(text, state),
+        yaml_lexeme_kind_t::PLAIN => {
+            step_lexeme::<plain_reader_t, IN_FLOW, DIRECT, S>(text, state, sink)
+        }
+        yaml_lexeme_kind_t::SINGLE_QUOTED => {
+            step_lexeme::<quoted_reader_t<true>, IN_FLOW, DIRECT, S>(text, state, sink)
+        }
+        yaml_lexeme_kind_t::DOUBLE_QUOTED => {
+            step_lexeme::<quoted_reader_t<false>, IN_FLOW, DIRECT, S>(text, state, sink)
+        }
+        yaml_lexeme_kind_t::LITERAL => {
+            step_lexeme::<block_reader_t<false>, IN_FLOW, DIRECT, S>(text, state, sink)
+        }
+        yaml_lexeme_kind_t::FOLDED => {
+            step_lexeme::<block_reader_t<true>, IN_FLOW, DIRECT, S>(text, state, sink)
+        }
+        yaml_lexeme_kind_t::ALIAS => step_queued::<name_reader_t<false>, IN_FLOW>(text, state),
+        yaml_lexeme_kind_t::ANCHOR => step_queued::<name_reader_t<true>, IN_FLOW>(text, state),
+        yaml_lexeme_kind_t::TAG => step_queued::<tag_reader_t, IN_FLOW>(text, state),
         yaml_lexeme_kind_t::STREAM_END => step_stream_end::<IN_FLOW>(text, state),
         yaml_lexeme_kind_t::DOCUMENT_START => step_marker::<IN_FLOW, true>(text, state),
         yaml_lexeme_kind_t::DOCUMENT_END => step_marker::<IN_FLOW, false>(text, state),
@@ -472,7 +340,7 @@ fn step_kind<const IN_FLOW: bool, const DIRECT: bool, S: yaml_token_sink_t>(
                 yaml_lexeme_kind_t::FLOW_MAPPING_END,
             )
         }
-        yaml_lexeme_kind_t::DIRECTIVE => step_directive::<IN_FLOW>(text, state),
+        yaml_lexeme_kind_t::DIRECTIVE => step_queued::<directive_reader_t, IN_FLOW>(text, state),
     }
 }
 

@@ -1,4 +1,4 @@
-use Rattle.yaml_scan.proofs.step.step_block.Given as goal
+use Rattle.yaml_scan.proofs.step.step_lexeme.Given as goal
 
 abbrev pub ghost-begin_step : goal.ghost-begin_step
 ghost-begin_step g a = g.before
