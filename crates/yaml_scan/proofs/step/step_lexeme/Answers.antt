@@ -1,10 +1,10 @@
-use Rattle.std.proofs.Common.{rules, [], inl, Err}
+use Rattle.std.proofs.Common.{rules, [], inl, Err, ◌∙◌}
 use Rattle.yaml_scan.specs.inside.Scanner.{scanner_of}
 use Rattle.yaml_scan.proofs.RunningStep.StepMoves.{on_ok_then, read_then, stays_on, stays_read, step_given, step_to_from}
 use Rattle.yaml_scan.proofs.step.step_lexeme.Goals as goal
 
 pub lay_read-requires : goal.lay_read-requires
-lay_read-requires g c = λ κs w. let b = c.in-Ok.ensures in (search rules, (w, read_then g.before (scanner_of c.args.text.now c.begin_step.new.state) (scanner_of c.args.text.now c.read_lexeme-read.new.state) c.in-Ok.step _ c.read_lexeme-read.result b.0 b.1 c.read_lexeme-read.ensures))
+lay_read-requires g c = λ κs w. let b = c.in-Ok.ensures in (search rules, (w, read_then g.before (scanner_of c.args.text.now c.begin_step.new.state) (scanner_of c.args.text.now c.read_lexeme-read.new.state) c.in-Ok.step _ c.read_lexeme-read.result b.0 (b.1 ∙ c.KIND.ensures) c.read_lexeme-read.ensures))
 
 pub end_laid-requires : goal.end_laid-requires
 end_laid-requires g c = record { laid = (c.args.text.now, g.before, ((scanner_of c.args.text.now c.read_lexeme-read.new.state), c.in-Ok-lay_read.ensures.laid)); room = c.in-Ok-lay_read.ensures.room }
