@@ -33,7 +33,7 @@ use crate::groups::{
 use crate::keys::KEY_LIMIT;
 use crate::parser::{begin, new_state, start, take_head, yaml_parser_t, yaml_scan_next};
 use crate::scanner::state_t;
-use crate::session::{end, is_stream_end, pass};
+use crate::session::is_stream_end;
 use crate::settled::is_settled;
 use crate::sink::{count_of, give, give_group, has_room_for, said_len, yaml_token_sink_t};
 use crate::step::step_to;
@@ -265,7 +265,7 @@ pub fn yaml_scan_next_to<S: yaml_token_sink_t>(
         Ok(settled) => settled,
         Err(stop) => {
             let fault = fault_at(stop, &parser.state.fault);
-            end(&mut parser.session, &mut parser.state.fault, fault);
+            parser.session.end(&mut parser.state.fault, fault);
             return Err(fault);
         }
     };
@@ -273,7 +273,7 @@ pub fn yaml_scan_next_to<S: yaml_token_sink_t>(
         return Ok(None);
     }
     let token = take_head(&parser.text, &mut parser.state);
-    pass(&mut parser.session, &token);
+    parser.session.pass(&token);
     Ok(put_or_return(sink, token))
 }
 

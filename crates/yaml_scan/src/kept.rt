@@ -24,7 +24,7 @@ use crate::groups::has_lead;
 use crate::parser::{begin, empty_text, yaml_parser_t};
 use crate::room::{give_while_room, show_next};
 use crate::scanner::state_t;
-use crate::session::{end, session_t};
+use crate::session::session_t;
 use crate::sink::yaml_token_sink_t;
 use crate::stop::{fault_at, stop_t};
 use std::alloc::Global;
@@ -352,7 +352,7 @@ fn end_kept(kept: &mut yaml_kept_parser_t, stop: stop_t)
         × (kept.new ≡ ended_by kept.old fault) }
 {
     let fault = fault_at(stop, &kept.state.fault);
-    end(&mut kept.session, &mut kept.state.fault, fault);
+    kept.session.end(&mut kept.state.fault, fault);
 }
 
 /// Gives the next tokens of a kept parser to a sink, over the same input, until the stream end was given or the sink

@@ -36,7 +36,7 @@ use crate::keys::KEY_LIMIT;
 use crate::levels::layout_t;
 use crate::near::{near_of, near_start};
 use crate::scanner::state_t;
-use crate::session::{end, is_stream_end, pass, session_t};
+use crate::session::{is_stream_end, session_t};
 use crate::settled::settle_head;
 use crate::stop::{fault_at, stop_t};
 use std::alloc::Global;
@@ -300,7 +300,7 @@ pub(crate) fn show(parser: &mut yaml_parser_t) -> bool
         }
         Err(stop) => {
             let fault = fault_at(stop, &parser.state.fault);
-            end(&mut parser.session, &mut parser.state.fault, fault);
+            parser.session.end(&mut parser.state.fault, fault);
             false
         }
     }
@@ -327,7 +327,7 @@ fn take_shown(parser: &mut yaml_parser_t) -> yaml_token_t
     ensures left { parser.new ≡ after_call parser.old SKIP }
 {
     let token = take_head(&parser.text, &mut parser.state);
-    pass(&mut parser.session, &token);
+    parser.session.pass(&token);
     token
 }
 
@@ -360,12 +360,12 @@ pub fn yaml_parser_scan(parser: &mut yaml_parser_t) -> Result<yaml_token_t, yaml
     ) {
         Ok(_) => {
             let token = take_head(&parser.text, &mut parser.state);
-            pass(&mut parser.session, &token);
+            parser.session.pass(&token);
             Ok(token)
         }
         Err(stop) => {
             let fault = fault_at(stop, &parser.state.fault);
-            end(&mut parser.session, &mut parser.state.fault, fault);
+            parser.session.end(&mut parser.state.fault, fault);
             Err(fault)
         }
     }

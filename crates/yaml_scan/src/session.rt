@@ -16,32 +16,34 @@ pub(crate) struct session_t {
     pub failed: bool,
 }
 
+impl session_t {
+    /// Goes on after a token that was taken: with the stream end the session is over.
+    pub(crate) fn pass(&mut self, token: &yaml_token_t)
+        ensures { self.new ≡ record {
+          peeked = false;
+          over = is_last_type (type_of (data_of token.now.token_data));
+          failed = self.old.failed;
+        } }
+    {
+        self.peeked = false;
+        self.over = is_stream_end(token);
+    }
+
+    /// Ends the session with a fault, and keeps that.
+    pub(crate) fn end(&mut self, kept: &mut Option<yaml_fault_t>, fault: yaml_fault_t)
+        ensures session { self.new ≡ record { peeked = false; over = true; failed = true } }
+        ensures kept { kept.new ≡ Some fault }
+    {
+        self.peeked = false;
+        self.over = true;
+        self.failed = true;
+        *kept = Some(fault);
+    }
+}
+
 /// Whether a token is the stream end.
 pub(crate) fn is_stream_end(token: &yaml_token_t) -> bool
     ensures { result ≡ is_last_type (type_of (data_of token.now.token_data)) }
 {
     matches!(token.token_data, unnamed_yaml_token_t_data::STREAM_END)
-}
-
-/// Goes on after a token that was taken: with the stream end the session is over.
-pub(crate) fn pass(session: &mut session_t, token: &yaml_token_t)
-    ensures { session.new ≡ record {
-      peeked = false;
-      over = is_last_type (type_of (data_of token.now.token_data));
-      failed = session.old.failed;
-    } }
-{
-    session.peeked = false;
-    session.over = is_stream_end(token);
-}
-
-/// Ends the session with a fault, and keeps that.
-pub(crate) fn end(session: &mut session_t, kept: &mut Option<yaml_fault_t>, fault: yaml_fault_t)
-    ensures session { session.new ≡ record { peeked = false; over = true; failed = true } }
-    ensures kept { kept.new ≡ Some fault }
-{
-    session.peeked = false;
-    session.over = true;
-    session.failed = true;
-    *kept = Some(fault);
 }
