@@ -28,7 +28,7 @@ ghost use Rattle.yaml_scan.specs.inside.Slots.{nested_outer, nested_top, Held, i
 
 use crate::allowed::is_allowed_after;
 use crate::depth::{is_flow_start, nest, slots_t};
-use crate::groups::{block_t, has_ends, queue_t};
+use crate::groups::{block_t, queue_t};
 use crate::keys::is_still_live;
 use crate::kind::{is_candidate, is_colon, step_t};
 use crate::levels::{close_levels, closing, is_new_level, open_level};
@@ -118,7 +118,7 @@ pub(crate) fn is_awaited(state: &state_t) -> bool
         && not (begins_with_end (pending state.now.layout.queue.early state.now.layout.queue.front
         state.now.layout.queue.groups.items))) }
 {
-    state.slots.awaited == state.layout.queue.done + 1 && !has_ends(&state.layout.queue)
+    state.slots.awaited == state.layout.queue.done + 1 && !state.layout.queue.has_ends()
 }
 
 /// Whether the head of the queue is the token of the lowest candidate, and there is room for two more groups.

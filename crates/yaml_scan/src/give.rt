@@ -27,9 +27,7 @@ ghost use Rattle.yaml_scan.specs.Puts.{AreReadAlike};
 ghost use Rattle.yaml_scan.specs.CallMarks.{AllIsCounted};
 ghost use Rattle.yaml_scan.specs.ParserCalls.{IsRefusedEarly};
 
-use crate::groups::{
-    group_t, is_bare, is_early, lead_t, lead_token, take_bare, take_early, take_lead,
-};
+use crate::groups::{group_t, lead_t, lead_token};
 use crate::keys::KEY_LIMIT;
 use crate::parser::{begin, new_state, start, take_head, yaml_parser_t, yaml_scan_next};
 use crate::scanner::state_t;
@@ -121,7 +119,7 @@ fn give_head<S: yaml_token_sink_t>(
         × Drains (scanner_of text.now state.old) (scanner_of text.now state.new) (group_tokens y)
         × Gives (λ tokens. S.took sink.old tokens sink.new) S.may_refuse (group_tokens y) result }
 {
-    if is_bare(&state.layout.queue) {
+    if state.layout.queue.is_bare() {
         let group = take_group(text, state);
         give(sink, group.token)
     } else {
@@ -325,12 +323,12 @@ pub(crate) fn give_next<S: yaml_token_sink_t>(
 {
     state.taken += 1;
     let queue = &mut state.layout.queue;
-    if is_early(queue) {
-        return give_taken(sink, take_early(queue));
+    if queue.is_early() {
+        return give_taken(sink, queue.take_early());
     }
-    let (lead, mark) = take_lead(queue);
+    let (lead, mark) = queue.take_lead();
     match lead {
-        lead_t::NOTHING => give_taken(sink, take_bare(queue)),
+        lead_t::NOTHING => give_taken(sink, queue.take_bare()),
         _ => give_taken(sink, lead_token(lead, mark)),
     }
 }

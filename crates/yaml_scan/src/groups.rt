@@ -7,8 +7,9 @@ ghost use Rattle.yaml_text.specs.Token.{data_of, token_of};
 ghost use Rattle.yaml_text.specs.declared.types.yaml_mark_t.{yaml_mark_t};
 ghost use Rattle.yaml_scan.specs.Token.{at_mark};
 ghost use Rattle.yaml_scan.specs.declared.groups.lead_t.TheVariants.{NOTHING};
+ghost use Rattle.yaml_scan.specs.inside.Handed.{IsPushed, lone};
 ghost use Rattle.yaml_scan.specs.inside.Queue.{IsBare, IsQueue, IsLead, TakesLead, TakesNext, keyed_at, leads, pending};
-ghost use Rattle.yaml_scan.specs.inside.Queue.{begins_with_end};
+ghost use Rattle.yaml_scan.specs.inside.Queue.{KeepsRest, begins_with_end};
 ghost use Rattle.yaml_scan.specs.inside.Queue.{mark_next, lead_tokens};
 ghost use Rattle.yaml_scan.specs.Groups.{Token, handed_out};
 ghost use Rattle.yaml_scan.specs.Groups.Token.{StreamStart};
@@ -25,28 +26,6 @@ pub(crate) enum block_t {
     MAPPING,
 }
 
-/// What a step hands out: block ends, the start of a block collection and a key, all at the start of its token, and
-/// then its token.
-#[derive(Drop)]
-pub(crate) struct group_t {
-    pub ends: usize,
-    pub opens: block_t,
-    pub key: bool,
-    pub token: yaml_token_t,
-}
-
-/// The groups of the steps that have a token that was not taken.
-#[derive(Drop)]
-pub(crate) struct queue_t {
-    pub groups: VecDeque<group_t>,
-    /// How many groups were taken.
-    pub done: u64,
-    /// How many block ends come before the last group: only the stream end has them.
-    pub early: usize,
-    /// The mark of these block ends, if there are any.
-    pub front: yaml_mark_t,
-}
-
 /// A token with one mark.
 #[inline(always)]
 pub(crate) fn token_at(says: unnamed_yaml_token_t_data, mark: yaml_mark_t) -> yaml_token_t
@@ -59,87 +38,6 @@ pub(crate) fn token_at(says: unnamed_yaml_token_t_data, mark: yaml_mark_t) -> ya
     }
 }
 
-/// How many groups a queue has room for at first. For a short text they are few, so that opening a parser stays cheap.
-fn first_room(text_len: usize) -> usize {
-    if text_len < 1024 { 8 } else { 16 }
-}
-
-/// Puts the first token into a queue that is empty, and makes room for some more groups. `text_len`: the length of the
-/// text, in bytes.
-pub(crate) fn put_stream_start(
-    queue: &mut queue_t,
-    encoding: yaml_encoding_t,
-    text_len: usize,
-) -> Result<(), AllocError>
-    requires empty { queue.old.groups.items ≡ [] }
-    requires none { queue.old.early ≡ 0 }
-    ensures queue { OnOk result (IsQueue encoding queue.new.early queue.new.front queue.new.groups.items (StreamStart
-        ∷ [])) }
-    ensures long { OnOk result (length queue.new.groups.items ≡ 1) }
-    ensures early { queue.new.early ≡ queue.old.early }
-    ensures done { queue.new.done ≡ queue.old.done }
-{
-    let zero = yaml_mark_t {
-        index: 0,
-        line: 0,
-        column: 0,
-    };
-    let token = token_at(unnamed_yaml_token_t_data::STREAM_START { encoding }, zero);
-    queue.groups.reserve(first_room(text_len))?;
-    queue.groups.push_back(group_t {
-        ends: 0,
-        opens: block_t::NONE,
-        key: false,
-        token,
-    })?;
-    Ok(())
-}
-
-/// Marks the group of a candidate with a key, and with the start of a block mapping, or none.
-pub(crate) fn mark_key(groups: &mut VecDeque<group_t>, at: usize, opens: bool)
-    requires { at < length groups.old.items }
-    ensures items { groups.new.items ≡ keyed_at at opens groups.old.items }
-    ensures capacity { deque_capacity groups.new ≡ deque_capacity groups.old }
-{
-    let group = &mut groups[at];
-    group.key = true;
-    if opens {
-        group.opens = block_t::MAPPING;
-    }
-}
-
-/// Whether a number is 1. This is called, and not inlined, where it is hardly ever asked: so that the test before it is
-/// all that is made elsewhere.
-#[cold]
-#[inline(never)]
-fn is_one(number: usize) -> bool
-    ensures { result ≡ nat_eq number 1 }
-{
-    number == 1
-}
-
-/// Whether the block ends of the front are next. Before the stream end there are none.
-#[inline(always)]
-pub(crate) fn is_early(queue: &queue_t) -> bool
-    ensures { result ≡ (nat_lt 0 queue.now.early && nat_eq (length queue.now.groups.items) 1) }
-{
-    queue.early > 0 && is_one(queue.groups.len())
-}
-
-/// Whether block ends are next.
-#[inline(always)]
-pub(crate) fn has_ends(queue: &queue_t) -> bool
-    ensures { result ≡ begins_with_end (pending queue.now.early queue.now.front queue.now.groups.items) }
-{
-    if is_early(queue) {
-        return true;
-    }
-    match queue.groups.front() {
-        None => false,
-        Some(head) => head.ends > 0,
-    }
-}
-
 /// What is handed out before the token of a group.
 #[derive(Clone, Copy)]
 pub(crate) enum lead_t {
@@ -148,103 +46,6 @@ pub(crate) enum lead_t {
     SEQUENCE_START,
     MAPPING_START,
     KEY,
-}
-
-/// What is handed out next of a group before its token.
-#[inline(always)]
-fn lead_of(head: &group_t) -> lead_t
-    ensures { lead_tokens result head.now.token.start_mark ≡ take 1 (leads head.now) }
-{
-    if head.ends > 0 {
-        return lead_t::END;
-    }
-    match head.opens {
-        block_t::SEQUENCE => lead_t::SEQUENCE_START,
-        block_t::MAPPING => lead_t::MAPPING_START,
-        block_t::NONE => if head.key {
-            lead_t::KEY
-        } else {
-            lead_t::NOTHING
-        },
-    }
-}
-
-/// Whether the head of the queue hands out its token alone.
-#[inline(always)]
-pub(crate) fn is_bare(queue: &queue_t) -> bool
-    ensures { result ≡ true → (y : group_t) (ys : List group_t) → queue.now.groups.items ≡ y ∷ ys → leads y ≡ [] }
-{
-    match queue.groups.front() {
-        None => false,
-        Some(head) => matches!(lead_of(head), lead_t::NOTHING),
-    }
-}
-
-/// Takes what is handed out next of a group before its token, if it hands out anything before that.
-#[inline(always)]
-fn take_lead_of(head: &mut group_t) -> lead_t
-    ensures lead { lead_tokens result head.old.token.start_mark ≡ take 1 (leads head.old) }
-    ensures leads { leads head.new ≡ drop 1 (leads head.old) }
-    ensures token { head.new.token ≡ head.old.token }
-    ensures none { result ≡ NOTHING → head.new ≡ head.old }
-{
-    if head.ends > 0 {
-        head.ends -= 1;
-        return lead_t::END;
-    }
-    match head.opens {
-        block_t::SEQUENCE => {
-            head.opens = block_t::NONE;
-            lead_t::SEQUENCE_START
-        }
-        block_t::MAPPING => {
-            head.opens = block_t::NONE;
-            lead_t::MAPPING_START
-        }
-        block_t::NONE => if head.key {
-            head.key = false;
-            lead_t::KEY
-        } else {
-            lead_t::NOTHING
-        },
-    }
-}
-
-/// What is handed out next, before the token of the head.
-#[inline(always)]
-fn next_lead(queue: &queue_t) -> lead_t
-    ensures { lead_tokens result (mark_next queue.now.early queue.now.front queue.now.groups.items)
-        ≡ take 1 (pending queue.now.early queue.now.front queue.now.groups.items) }
-{
-    if is_early(queue) {
-        return lead_t::END;
-    }
-    match queue.groups.front() {
-        None => lead_t::NOTHING,
-        Some(head) => lead_of(head),
-    }
-}
-
-/// Whether a token is handed out before that of the head.
-#[inline(always)]
-pub(crate) fn has_lead(queue: &queue_t) -> bool
-    ensures { result ≡ nat_lt 0 (length (pending queue.now.early queue.now.front queue.now.groups.items)) }
-{
-    !matches!(next_lead(queue), lead_t::NOTHING)
-}
-
-/// The mark of what is handed out before the token of the head.
-#[inline(always)]
-fn lead_mark(queue: &queue_t) -> yaml_mark_t
-    ensures { result ≡ mark_next queue.now.early queue.now.front queue.now.groups.items }
-{
-    if is_early(queue) {
-        return queue.front;
-    }
-    match queue.groups.front() {
-        None => queue.front,
-        Some(head) => head.token.start_mark,
-    }
 }
 
 /// The token of a lead, or an empty one if there is none.
@@ -262,72 +63,326 @@ pub(crate) fn lead_token(lead: lead_t, mark: yaml_mark_t) -> yaml_token_t
     token_at(says, mark)
 }
 
-/// The token that is handed out before that of the head, or an empty one if there is none.
-#[inline(always)]
-fn lead(queue: &queue_t) -> yaml_token_t
-    ensures { (e : yaml_encoding_t) → IsLead e queue.now (token_of result) }
-{
-    lead_token(next_lead(queue), lead_mark(queue))
+/// What a step hands out: block ends, the start of a block collection and a key, all at the start of its token, and
+/// then its token.
+#[derive(Drop)]
+pub(crate) struct group_t {
+    pub ends: usize,
+    pub opens: block_t,
+    pub key: bool,
+    pub token: yaml_token_t,
 }
 
-/// Puts the token that is handed out before that of the head into the place of another, if there is one.
-#[inline(always)]
-pub(crate) fn show_lead(queue: &queue_t, shown: &mut yaml_token_t)
-    ensures { (e : yaml_encoding_t) → IsLead e queue.now (token_of shown.new) }
-{
-    if has_lead(queue) {
-        *shown = lead(queue);
+impl group_t {
+    /// What is handed out next of a group before its token.
+    #[inline(always)]
+    fn next_lead(&self) -> lead_t
+        ensures { lead_tokens result self.now.token.start_mark ≡ take 1 (leads self.now) }
+    {
+        if self.ends > 0 {
+            return lead_t::END;
+        }
+        match self.opens {
+            block_t::SEQUENCE => lead_t::SEQUENCE_START,
+            block_t::MAPPING => lead_t::MAPPING_START,
+            block_t::NONE => if self.key {
+                lead_t::KEY
+            } else {
+                lead_t::NOTHING
+            },
+        }
+    }
+
+    /// Takes what is handed out next of a group before its token, if it hands out anything before that.
+    #[inline(always)]
+    fn take_lead(&mut self) -> lead_t
+        ensures lead { lead_tokens result self.old.token.start_mark ≡ take 1 (leads self.old) }
+        ensures leads { leads self.new ≡ drop 1 (leads self.old) }
+        ensures token { self.new.token ≡ self.old.token }
+        ensures none { result ≡ NOTHING → self.new ≡ self.old }
+    {
+        if self.ends > 0 {
+            self.ends -= 1;
+            return lead_t::END;
+        }
+        match self.opens {
+            block_t::SEQUENCE => {
+                self.opens = block_t::NONE;
+                lead_t::SEQUENCE_START
+            }
+            block_t::MAPPING => {
+                self.opens = block_t::NONE;
+                lead_t::MAPPING_START
+            }
+            block_t::NONE => if self.key {
+                self.key = false;
+                lead_t::KEY
+            } else {
+                lead_t::NOTHING
+            },
+        }
     }
 }
 
-/// Takes the next of the block ends of the front. There is one.
-pub(crate) fn take_early(queue: &mut queue_t) -> yaml_token_t
-    requires { (nat_lt 0 queue.old.early && nat_eq (length queue.old.groups.items) 1) ≡ true }
-    ensures { TakesNext queue.old queue.new (token_of result) }
-{
-    queue.early -= 1;
-    token_at(unnamed_yaml_token_t_data::BLOCK_END, queue.front)
+/// How many groups a queue has room for at first. For a short text they are few, so that opening a parser stays cheap.
+fn first_room(text_len: usize) -> usize {
+    if text_len < 1024 { 8 } else { 16 }
 }
 
-/// Takes what is handed out before the token of the head, and returns it with its mark. The block ends of the front are
-/// not next.
-#[inline(always)]
-pub(crate) fn take_lead(queue: &mut queue_t) -> (lead_t, yaml_mark_t)
-    requires some { 0 < length queue.old.groups.items }
-    requires late { (nat_lt 0 queue.old.early && nat_eq (length queue.old.groups.items) 1) ≡ false }
-    ensures none { result.0 ≡ NOTHING → IsBare queue.old queue.new }
-    ensures lead { TakesLead queue.old queue.new result.0 result.1 }
+/// Whether a number is 1. This is called, and not inlined, where it is hardly ever asked: so that the test before it is
+/// all that is made elsewhere.
+#[cold]
+#[inline(never)]
+fn is_one(number: usize) -> bool
+    ensures { result ≡ nat_eq number 1 }
 {
-    let head = queue.groups.front_mut().unwrap();
-    let mark = head.token.start_mark;
-    (take_lead_of(head), mark)
+    number == 1
 }
 
-/// Takes the token of the head, before which none is handed out.
-#[inline(always)]
-pub(crate) fn take_bare(queue: &mut queue_t) -> yaml_token_t
-    requires some { 0 < length queue.old.groups.items }
-    requires none { pending queue.old.early queue.old.front queue.old.groups.items ≡ [] }
-    requires few { queue.old.done + 1 < 2 ^ 64 }
-    ensures { TakesNext queue.old queue.new (token_of result) }
-{
-    queue.done += 1;
-    queue.groups.pop_front().unwrap().token
+/// The groups of the steps that have a token that was not taken.
+#[derive(Drop)]
+pub(crate) struct queue_t {
+    pub groups: VecDeque<group_t>,
+    /// How many groups were taken.
+    pub done: u64,
+    /// How many block ends come before the last group: only the stream end has them.
+    pub early: usize,
+    /// The mark of these block ends, if there are any.
+    pub front: yaml_mark_t,
 }
 
-/// Takes the next token. There is one.
-#[inline(always)]
-pub(crate) fn take_next(queue: &mut queue_t) -> yaml_token_t
-    requires some { 0 < length queue.old.groups.items }
-    requires few { queue.old.done + 1 < 2 ^ 64 }
-    ensures { TakesNext queue.old queue.new (token_of result) }
-{
-    if is_early(queue) {
-        return take_early(queue);
+impl queue_t {
+    /// Puts the first token into a queue that is empty, and makes room for some more groups. `text_len`: the length of
+    /// the text, in bytes.
+    pub(crate) fn put_stream_start(
+        &mut self,
+        encoding: yaml_encoding_t,
+        text_len: usize,
+    ) -> Result<(), AllocError>
+        requires empty { self.old.groups.items ≡ [] }
+        requires none { self.old.early ≡ 0 }
+        ensures queue { OnOk result (IsQueue encoding self.new.early self.new.front self.new.groups.items (StreamStart
+            ∷ [])) }
+        ensures long { OnOk result (length self.new.groups.items ≡ 1) }
+        ensures early { self.new.early ≡ self.old.early }
+        ensures done { self.new.done ≡ self.old.done }
+    {
+        let zero = yaml_mark_t {
+            index: 0,
+            line: 0,
+            column: 0,
+        };
+        let token = token_at(unnamed_yaml_token_t_data::STREAM_START { encoding }, zero);
+        self.groups.reserve(first_room(text_len))?;
+        self.groups.push_back(group_t {
+            ends: 0,
+            opens: block_t::NONE,
+            key: false,
+            token,
+        })?;
+        Ok(())
     }
-    let (lead, mark) = take_lead(queue);
-    match lead {
-        lead_t::NOTHING => take_bare(queue),
-        _ => lead_token(lead, mark),
+
+    /// Puts a group at the end, for which there is room. It is put together here, so that one that goes straight to a
+    /// sink is not put together in memory.
+    #[inline(always)]
+    pub(crate) fn push(&mut self, group: group_t)
+        requires { length self.old.groups.items < deque_capacity self.old.groups }
+        ensures { IsPushed self.old group self.new }
+    {
+        let group_t {
+            ends,
+            opens,
+            key,
+            token,
+        } = group;
+        self.groups.push_back_reserved(group_t {
+            ends,
+            opens,
+            key,
+            token,
+        });
+    }
+
+    /// Puts a token that is a group alone at the end, where there is room.
+    #[inline(always)]
+    pub(crate) fn push_alone(&mut self, token: yaml_token_t)
+        requires { length self.old.groups.items < deque_capacity self.old.groups }
+        ensures { IsPushed self.old (lone token) self.new }
+    {
+        self.groups.push_back_reserved(group_t {
+            ends: 0,
+            opens: block_t::NONE,
+            key: false,
+            token,
+        });
+    }
+
+    /// Marks the group of a candidate with a key, and with the start of a block mapping, or none.
+    pub(crate) fn mark_key(&mut self, at: usize, opens: bool)
+        requires { at < length self.old.groups.items }
+        ensures items { self.new.groups.items ≡ keyed_at at opens self.old.groups.items }
+        ensures rest { KeepsRest self.old self.new }
+    {
+        let group = &mut self.groups[at];
+        group.key = true;
+        if opens {
+            group.opens = block_t::MAPPING;
+        }
+    }
+
+    /// Keeps how many levels end at the end of the gap, and where that is. No group before it has early block ends.
+    #[inline(always)]
+    pub(crate) fn keep_early(&mut self, early: usize, front: yaml_mark_t)
+        requires none { self.old.early ≡ 0 }
+        ensures groups { self.new.groups ≡ self.old.groups }
+        ensures done { self.new.done ≡ self.old.done }
+        ensures early { self.new.early ≡ early }
+        ensures front { 0 < early → self.new.front ≡ front }
+    {
+        if early > 0 {
+            self.early = early;
+            self.front = front;
+        }
+    }
+
+    /// Whether the block ends of the front are next. Before the stream end there are none.
+    #[inline(always)]
+    pub(crate) fn is_early(&self) -> bool
+        ensures { result ≡ (nat_lt 0 self.now.early && nat_eq (length self.now.groups.items) 1) }
+    {
+        self.early > 0 && is_one(self.groups.len())
+    }
+
+    /// Whether block ends are next.
+    #[inline(always)]
+    pub(crate) fn has_ends(&self) -> bool
+        ensures { result ≡ begins_with_end (pending self.now.early self.now.front self.now.groups.items) }
+    {
+        if self.is_early() {
+            return true;
+        }
+        match self.groups.front() {
+            None => false,
+            Some(head) => head.ends > 0,
+        }
+    }
+
+    /// Whether the head of the queue hands out its token alone.
+    #[inline(always)]
+    pub(crate) fn is_bare(&self) -> bool
+        ensures { result ≡ true → (y : group_t) (ys : List group_t) → self.now.groups.items ≡ y ∷ ys → leads y ≡ [] }
+    {
+        match self.groups.front() {
+            None => false,
+            Some(head) => matches!(head.next_lead(), lead_t::NOTHING),
+        }
+    }
+
+    /// What is handed out next, before the token of the head.
+    #[inline(always)]
+    fn next_lead(&self) -> lead_t
+        ensures { lead_tokens result (mark_next self.now.early self.now.front self.now.groups.items)
+            ≡ take 1 (pending self.now.early self.now.front self.now.groups.items) }
+    {
+        if self.is_early() {
+            return lead_t::END;
+        }
+        match self.groups.front() {
+            None => lead_t::NOTHING,
+            Some(head) => head.next_lead(),
+        }
+    }
+
+    /// Whether a token is handed out before that of the head.
+    #[inline(always)]
+    pub(crate) fn has_lead(&self) -> bool
+        ensures { result ≡ nat_lt 0 (length (pending self.now.early self.now.front self.now.groups.items)) }
+    {
+        !matches!(self.next_lead(), lead_t::NOTHING)
+    }
+
+    /// The mark of what is handed out before the token of the head.
+    #[inline(always)]
+    fn lead_mark(&self) -> yaml_mark_t
+        ensures { result ≡ mark_next self.now.early self.now.front self.now.groups.items }
+    {
+        if self.is_early() {
+            return self.front;
+        }
+        match self.groups.front() {
+            None => self.front,
+            Some(head) => head.token.start_mark,
+        }
+    }
+
+    /// The token that is handed out before that of the head, or an empty one if there is none.
+    #[inline(always)]
+    fn lead(&self) -> yaml_token_t
+        ensures { (e : yaml_encoding_t) → IsLead e self.now (token_of result) }
+    {
+        lead_token(self.next_lead(), self.lead_mark())
+    }
+
+    /// Puts the token that is handed out before that of the head into the place of another, if there is one.
+    #[inline(always)]
+    pub(crate) fn show_lead(&self, shown: &mut yaml_token_t)
+        ensures { (e : yaml_encoding_t) → IsLead e self.now (token_of shown.new) }
+    {
+        if self.has_lead() {
+            *shown = self.lead();
+        }
+    }
+
+    /// Takes the next of the block ends of the front. There is one.
+    pub(crate) fn take_early(&mut self) -> yaml_token_t
+        requires { (nat_lt 0 self.old.early && nat_eq (length self.old.groups.items) 1) ≡ true }
+        ensures { TakesNext self.old self.new (token_of result) }
+    {
+        self.early -= 1;
+        token_at(unnamed_yaml_token_t_data::BLOCK_END, self.front)
+    }
+
+    /// Takes what is handed out before the token of the head, and returns it with its mark. The block ends of the front
+    /// are not next.
+    #[inline(always)]
+    pub(crate) fn take_lead(&mut self) -> (lead_t, yaml_mark_t)
+        requires some { 0 < length self.old.groups.items }
+        requires late { (nat_lt 0 self.old.early && nat_eq (length self.old.groups.items) 1) ≡ false }
+        ensures none { result.0 ≡ NOTHING → IsBare self.old self.new }
+        ensures lead { TakesLead self.old self.new result.0 result.1 }
+    {
+        let head = self.groups.front_mut().unwrap();
+        let mark = head.token.start_mark;
+        (head.take_lead(), mark)
+    }
+
+    /// Takes the token of the head, before which none is handed out.
+    #[inline(always)]
+    pub(crate) fn take_bare(&mut self) -> yaml_token_t
+        requires some { 0 < length self.old.groups.items }
+        requires none { pending self.old.early self.old.front self.old.groups.items ≡ [] }
+        requires few { self.old.done + 1 < 2 ^ 64 }
+        ensures { TakesNext self.old self.new (token_of result) }
+    {
+        self.done += 1;
+        self.groups.pop_front().unwrap().token
+    }
+
+    /// Takes the next token. There is one.
+    #[inline(always)]
+    pub(crate) fn take_next(&mut self) -> yaml_token_t
+        requires some { 0 < length self.old.groups.items }
+        requires few { self.old.done + 1 < 2 ^ 64 }
+        ensures { TakesNext self.old self.new (token_of result) }
+    {
+        if self.is_early() {
+            return self.take_early();
+        }
+        let (lead, mark) = self.take_lead();
+        match lead {
+            lead_t::NOTHING => self.take_bare(),
+            _ => lead_token(lead, mark),
+        }
     }
 }

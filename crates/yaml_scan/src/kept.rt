@@ -20,7 +20,6 @@ ghost use Rattle.yaml_scan.specs.Scanned.{GoesOnBy};
 ghost use Rattle.yaml_scan.specs.Session.Call.{SCAN, PEEK};
 ghost use Rattle.yaml_scan.specs.Session.Answer.{PEEKED};
 
-use crate::groups::has_lead;
 use crate::parser::{begin, empty_text, yaml_parser_t};
 use crate::room::{give_while_room, show_next};
 use crate::scanner::state_t;
@@ -165,7 +164,7 @@ impl yaml_kept_parser_t {
     {
         if !self.session.peeked {
             None
-        } else if has_lead(&self.state.layout.queue) {
+        } else if self.state.layout.queue.has_lead() {
             Some(&self.lead)
         } else {
             match self.state.layout.queue.groups.front() {

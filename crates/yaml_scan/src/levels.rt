@@ -15,7 +15,7 @@ ghost use Rattle.yaml_scan.specs.inside.Queue.{KeepsRest};
 ghost use Rattle.yaml_scan.specs.inside.Slots.{is_level};
 
 use crate::depth::candidate_t;
-use crate::groups::{block_t, mark_key, queue_t};
+use crate::groups::{block_t, queue_t};
 use crate::kind::{is_last, is_opener, stays_open, step_t};
 use yaml_lexeme::yaml_lexeme_kind_t;
 use yaml_text::yaml_mark_t;
@@ -180,7 +180,7 @@ fn complete(layout: &mut layout_t, in_flow: bool, held: candidate_t)
 {
     let opens = is_new_level(&layout.levels, in_flow, held.start.column);
     let at = (held.step - 1 - layout.queue.done) as usize;
-    mark_key(&mut layout.queue.groups, at, opens);
+    layout.queue.mark_key(at, opens);
     open_level(&mut layout.levels, opens, held.start.column);
 }
 
@@ -238,20 +238,5 @@ pub(crate) fn put_key(
             block_t::NONE
         }
         None => begin(&mut layout.levels, step),
-    }
-}
-
-/// Keeps how many levels end at the end of the gap, and where that is. No group before it has early block ends.
-#[inline(always)]
-pub(crate) fn keep_early(queue: &mut queue_t, closed: closed_t, front: yaml_mark_t)
-    requires none { queue.old.early ≡ 0 }
-    ensures groups { queue.new.groups ≡ queue.old.groups }
-    ensures done { queue.new.done ≡ queue.old.done }
-    ensures early { queue.new.early ≡ closed.early }
-    ensures front { 0 < closed.early → queue.new.front ≡ front }
-{
-    if closed.early > 0 {
-        queue.early = closed.early;
-        queue.front = front;
     }
 }

@@ -31,7 +31,7 @@ ghost use Rattle.yaml_scan.specs.Scanned.{Scanned};
 ghost use Rattle.yaml_scan.specs.Session.Answer.{TOKEN, FAULT};
 
 use crate::depth::slots_t;
-use crate::groups::{has_lead, put_stream_start, queue_t, show_lead, take_next};
+use crate::groups::queue_t;
 use crate::keys::KEY_LIMIT;
 use crate::levels::layout_t;
 use crate::near::{near_of, near_start};
@@ -145,7 +145,8 @@ pub(crate) fn begin<'a>(
         state.fault = Some(fault);
         return Err(stop_t::FAULT);
     }
-    put_stream_start(&mut state.layout.queue, encoding, text.bytes().len())?;
+    let queue = &mut state.layout.queue;
+    queue.put_stream_start(encoding, text.bytes().len())?;
     state.fault = refusal;
     state.near = near;
     state.made = 1;
@@ -228,7 +229,7 @@ pub(crate) fn take_head(_text: &yaml_text_t, state: &mut state_t) -> yaml_token_
     ensures { Pops (scanner_of _text.now state.old) (scanner_of _text.now state.new) (token_of result) }
 {
     state.taken += 1;
-    take_next(&mut state.layout.queue)
+    state.layout.queue.take_next()
 }
 
 impl<'a> yaml_parser_t<'a> {
@@ -272,7 +273,7 @@ fn shown<'s>(parser: &'s yaml_parser_t<'_>) -> &'s yaml_token_t
 {
     if !parser.session.peeked {
         &parser.empty
-    } else if has_lead(&parser.state.layout.queue) {
+    } else if parser.state.layout.queue.has_lead() {
         &parser.lead
     } else {
         &parser.state.layout.queue.groups.front().unwrap().token
@@ -294,7 +295,7 @@ pub(crate) fn show(parser: &mut yaml_parser_t) -> bool
         parser.session.peeked,
     ) {
         Ok(_) => {
-            show_lead(&parser.state.layout.queue, &mut parser.lead);
+            parser.state.layout.queue.show_lead(&mut parser.lead);
             parser.session.peeked = true;
             true
         }

@@ -15,7 +15,6 @@ ghost use Rattle.yaml_scan.specs.inside.Scanner.{scanner_of};
 ghost use Rattle.yaml_scan.specs.inside.Sent.{HasSentOrSettled};
 
 use crate::give::{give_next, send_on};
-use crate::groups::{has_lead, show_lead};
 use crate::scanner::state_t;
 use crate::session::session_t;
 use crate::settled::settle_head;
@@ -31,7 +30,7 @@ fn next_len(_text: &yaml_text_t, state: &state_t) -> u128
         → result ≡ said_len (token_shown (shown_in i state.now)).token_data }
 {
     let queue = &state.layout.queue;
-    if has_lead(queue) {
+    if queue.has_lead() {
         return 0;
     }
     match queue.groups.front() {
@@ -47,7 +46,7 @@ fn show_head(_text: &yaml_text_t, state: &state_t, session: &mut session_t, lead
         → ShowsTo i (with_parts i _text.now state.now session.new lead.new)
         × (parser_of (with_parts i _text.now state.now session.new lead.new) ≡ shown_in i state.now) }
 {
-    show_lead(&state.layout.queue, lead);
+    state.layout.queue.show_lead(lead);
     session.peeked = true;
 }
 

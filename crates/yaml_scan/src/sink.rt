@@ -17,7 +17,6 @@ use crate::groups::{block_t, group_t, token_at};
 use crate::scanner::state_t;
 use crate::stop::{stop_by_sink, stop_t, stopped};
 use std::alloc::{AllocError, Global};
-use std::collections::VecDeque;
 use yaml_text::{unnamed_yaml_token_t_data, yaml_mark_t, yaml_token_t};
 
 /// Takes the tokens of an input, one after the other.
@@ -332,43 +331,6 @@ pub(crate) fn has_room_for_both<const DIRECT: bool, S: yaml_token_sink_t>(
     DIRECT && sink.has_room((levels.len() + 4) as u128, texts)
 }
 
-/// Puts a group into the queue, which has room. It is put together here, so that one that goes straight to a sink is
-/// not put together in memory.
-#[inline(always)]
-fn queue(groups: &mut VecDeque<group_t>, group: group_t)
-    requires { length groups.old.items < deque_capacity groups.old }
-    ensures items { groups.new.items ≡ groups.old.items ++ group ∷ [] }
-    ensures capacity { deque_capacity groups.new ≡ deque_capacity groups.old }
-{
-    let group_t {
-        ends,
-        opens,
-        key,
-        token,
-    } = group;
-    groups.push_back_reserved(group_t {
-        ends,
-        opens,
-        key,
-        token,
-    });
-}
-
-/// Puts a token that is a group alone into the queue, which has room.
-#[inline(always)]
-fn queue_alone(groups: &mut VecDeque<group_t>, token: yaml_token_t)
-    requires { length groups.old.items < deque_capacity groups.old }
-    ensures items { groups.new.items ≡ groups.old.items ++ lone token ∷ [] }
-    ensures capacity { deque_capacity groups.new ≡ deque_capacity groups.old }
-{
-    groups.push_back_reserved(group_t {
-        ends: 0,
-        opens: block_t::NONE,
-        key: false,
-        token,
-    });
-}
-
 /// Hands on the group of a step: straight to the sink if `DIRECT` and it need not wait, and else into the queue, which
 /// has room.
 #[inline(always)]
@@ -387,7 +349,7 @@ pub(crate) fn hand_on<const DIRECT: bool, S: yaml_token_sink_t>(
         S.may_refuse result }
 {
     if !DIRECT || waits {
-        queue(&mut state.layout.queue.groups, group);
+        state.layout.queue.push(group);
         return Ok(());
     }
     let count = count_of(&group);
@@ -420,7 +382,7 @@ pub(crate) fn hand_keyless<const DIRECT: bool, S: yaml_token_sink_t>(
         S.may_refuse result }
 {
     if !DIRECT || waits {
-        queue(&mut state.layout.queue.groups, group);
+        state.layout.queue.push(group);
         return Ok(());
     }
     let count = count_of(&group);
@@ -452,7 +414,7 @@ pub(crate) fn hand_token<const DIRECT: bool, S: yaml_token_sink_t>(
         S.may_refuse result }
 {
     if !DIRECT || waits {
-        queue_alone(&mut state.layout.queue.groups, token);
+        state.layout.queue.push_alone(token);
         return Ok(());
     }
     match give(sink, token) {

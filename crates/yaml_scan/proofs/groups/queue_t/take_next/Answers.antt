@@ -1,6 +1,6 @@
 use Rattle.yaml_text.specs.Token.{token_of}
 use Rattle.yaml_scan.proofs.RunningQueue.QueueGroups.{bare_taken}
-use Rattle.yaml_scan.proofs.groups.take_next.Goals as goal
+use Rattle.yaml_scan.proofs.groups.queue_t.take_next.Goals as goal
 
 pub take_bare-requires-clause-some : goal.take_bare-requires-clause-some
 take_bare-requires-clause-some c = let b = c.take_lead-lead.ensures.none c.in-NOTHING.is in rw b.groups c.requires.some
@@ -15,4 +15,4 @@ pub returns-in_default : goal.returns-in_default
 returns-in_default c = c.take_lead-lead.ensures.lead (token_of c.lead_token.result) c.in_default.not-NOTHING c.lead_token.ensures
 
 pub returns-in-NOTHING : goal.returns-in-NOTHING
-returns-in-NOTHING c = let b = c.take_lead-lead.ensures.none c.in-NOTHING.is in bare_taken c.args.queue.now c.take_lead-lead.new.queue c.take_bare.new.queue (token_of c.take_bare.result) b c.take_bare.ensures
+returns-in-NOTHING c = let b = c.take_lead-lead.ensures.none c.in-NOTHING.is in bare_taken c.args.self.now c.take_lead-lead.new.self c.take_bare.new.self (token_of c.take_bare.result) b c.take_bare.ensures
