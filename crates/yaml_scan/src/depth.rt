@@ -16,19 +16,6 @@ pub(crate) struct candidate_t {
     pub required: bool,
 }
 
-/// The candidates of all depths.
-#[derive(Drop)]
-pub(crate) struct slots_t {
-    /// Those of the depths below the present one.
-    pub outer: Vec<Option<candidate_t>>,
-    /// How many of the lowest of these are empty: no slot below holds a candidate.
-    pub not_simple_keys: usize,
-    /// The candidate of the present depth.
-    pub top: Option<candidate_t>,
-    /// The step of the lowest candidate, or 0.
-    pub awaited: u64,
-}
-
 #[inline(always)]
 pub(crate) fn is_flow_start(kind: yaml_lexeme_kind_t) -> bool
     ensures { result ≡ kinds.is_flow_start kind }
@@ -57,34 +44,49 @@ pub(crate) fn nests(kind: yaml_lexeme_kind_t) -> bool
     is_flow_start(kind) || is_flow_end(kind)
 }
 
-/// Enters a depth, for which there is room.
-#[inline(always)]
-fn enter(slots: &mut slots_t)
-    requires { vec_len slots.old.outer < vec_capacity slots.old.outer }
-    ensures outer { slots.new.outer.items ≡ slots.old.outer.items ++ slots.old.top ∷ [] }
-    ensures top { slots.new.top ≡ None }
-    ensures empty { slots.new.not_simple_keys ≡ slots.old.not_simple_keys }
-    ensures awaited { slots.new.awaited ≡ slots.old.awaited }
-{
-    let held = std::mem::replace(&mut slots.top, None);
-    slots.outer.push_reserved(held);
+/// The candidates of all depths.
+#[derive(Drop)]
+pub(crate) struct slots_t {
+    /// Those of the depths below the present one.
+    pub outer: Vec<Option<candidate_t>>,
+    /// How many of the lowest of these are empty: no slot below holds a candidate.
+    pub not_simple_keys: usize,
+    /// The candidate of the present depth.
+    pub top: Option<candidate_t>,
+    /// The step of the lowest candidate, or 0.
+    pub awaited: u64,
 }
 
-/// Enters a depth at a flow start, for which there is room, and leaves one at a flow end.
-#[inline(always)]
-pub(crate) fn nest(slots: &mut slots_t, kind: yaml_lexeme_kind_t)
-    requires { kinds.is_flow_start kind ≡ true → vec_len slots.old.outer < vec_capacity slots.old.outer }
-    ensures outer { slots.new.outer.items ≡ nested_outer kind slots.old.outer.items slots.old.top }
-    ensures top { slots.new.top ≡ nested_top kind slots.old.outer.items slots.old.top }
-    ensures empty { slots.new.not_simple_keys ≡ slots.old.not_simple_keys }
-    ensures awaited { slots.new.awaited ≡ slots.old.awaited }
-{
-    if is_flow_start(kind) {
-        enter(slots);
-    } else if is_flow_end(kind) {
-        if let Some(held) = slots.outer.last() {
-            slots.top = *held;
+impl slots_t {
+    /// Enters a depth, for which there is room.
+    #[inline(always)]
+    fn enter(&mut self)
+        requires { vec_len self.old.outer < vec_capacity self.old.outer }
+        ensures outer { self.new.outer.items ≡ self.old.outer.items ++ self.old.top ∷ [] }
+        ensures top { self.new.top ≡ None }
+        ensures empty { self.new.not_simple_keys ≡ self.old.not_simple_keys }
+        ensures awaited { self.new.awaited ≡ self.old.awaited }
+    {
+        let held = std::mem::replace(&mut self.top, None);
+        self.outer.push_reserved(held);
+    }
+
+    /// Enters a depth at a flow start, for which there is room, and leaves one at a flow end.
+    #[inline(always)]
+    pub(crate) fn nest(&mut self, kind: yaml_lexeme_kind_t)
+        requires { kinds.is_flow_start kind ≡ true → vec_len self.old.outer < vec_capacity self.old.outer }
+        ensures outer { self.new.outer.items ≡ nested_outer kind self.old.outer.items self.old.top }
+        ensures top { self.new.top ≡ nested_top kind self.old.outer.items self.old.top }
+        ensures empty { self.new.not_simple_keys ≡ self.old.not_simple_keys }
+        ensures awaited { self.new.awaited ≡ self.old.awaited }
+    {
+        if is_flow_start(kind) {
+            self.enter();
+        } else if is_flow_end(kind) {
+            if let Some(held) = self.outer.last() {
+                self.top = *held;
+            }
+            self.outer.pop();
         }
-        slots.outer.pop();
     }
 }

@@ -27,9 +27,8 @@ ghost use Rattle.yaml_scan.specs.inside.Scanning.{IsFollower, IsFollowed};
 ghost use Rattle.yaml_scan.specs.inside.Slots.{nested_outer, nested_top, Held, is_live};
 
 use crate::allowed::is_allowed_after;
-use crate::depth::{is_flow_start, nest, slots_t};
+use crate::depth::{is_flow_start, slots_t};
 use crate::groups::{block_t, queue_t};
-use crate::keys::is_still_live;
 use crate::kind::{is_candidate, is_colon, step_t};
 use crate::levels::{close_levels, closing, is_new_level, open_level};
 use crate::scanner::state_t;
@@ -72,7 +71,7 @@ pub(crate) fn is_undecided(state: &state_t, sparing: bool, step: step_t, reach: 
                 step.kind,
                 step.new.start,
             ))
-        && is_still_live(state.limit, reach, step.new)
+        && step.new.is_live(state.limit, reach)
 }
 
 /// The start of a block mapping, or none.
@@ -143,7 +142,7 @@ fn has_known_slot(state: &state_t, step: step_t, reach: yaml_mark_t) -> bool
     ensures none { result ≡ true → step.allowed ≡ false → state.now.slots.top ≡ None }
 {
     if step.allowed {
-        is_still_live(state.limit, reach, step.new)
+        step.new.is_live(state.limit, reach)
     } else {
         state.slots.top.is_none()
     }
@@ -159,7 +158,7 @@ pub(crate) fn is_outer_live(slots: &slots_t, limit: u64, mark: yaml_mark_t) -> b
         None => false,
         Some(slot) => match *slot {
             None => false,
-            Some(held) => is_still_live(limit, mark, held),
+            Some(held) => held.is_live(limit, mark),
         },
     }
 }
@@ -284,7 +283,7 @@ fn drop_candidate(slots: &mut slots_t, kind: yaml_lexeme_kind_t, waits: bool)
     ensures awaited { slots.new.awaited ≡ (if waits then slots.old.awaited else 0) }
 {
     slots.top = None;
-    nest(slots, kind);
+    slots.nest(kind);
     if !waits {
         slots.not_simple_keys = slots.outer.len();
         slots.awaited = 0;

@@ -10,7 +10,7 @@ ghost use Rattle.yaml_scan.specs.inside.Slots.{completed_held, nested_outer, nes
 ghost use Rattle.yaml_scan.specs.inside.Slots.{AreEmptyBelow};
 ghost use Rattle.yaml_scan.specs.inside.Slots.{AreNested};
 
-use crate::depth::{candidate_t, is_flow_start, nest, nests, slots_t};
+use crate::depth::{candidate_t, is_flow_start, nests, slots_t};
 use crate::kind::{is_candidate, is_colon, step_t};
 use yaml_lexeme::yaml_lexeme_kind_t;
 use yaml_text::yaml_mark_t;
@@ -18,12 +18,14 @@ use yaml_text::yaml_mark_t;
 /// The key limit in bytes, if no other is set.
 pub(crate) const KEY_LIMIT: u32 = 1024;
 
-/// Whether a candidate is live at a mark: on its line, and at most `limit` bytes from its start.
-#[inline(always)]
-pub(crate) fn is_still_live(limit: u64, mark: yaml_mark_t, held: candidate_t) -> bool
-    ensures { result ≡ is_live limit mark held }
-{
-    mark.line == held.start.line && mark.index.saturating_sub(held.start.index) <= limit
+impl candidate_t {
+    /// Whether it is live at a mark: on its line, and at most `limit` bytes from its start.
+    #[inline(always)]
+    pub(crate) fn is_live(self, limit: u64, mark: yaml_mark_t) -> bool
+        ensures { result ≡ is_live limit mark self }
+    {
+        mark.line == self.start.line && mark.index.saturating_sub(self.start.index) <= limit
+    }
 }
 
 /// A candidate, unless it is stale at a mark.
@@ -33,7 +35,7 @@ pub(crate) fn kept(slot: Option<candidate_t>, limit: u64, mark: yaml_mark_t) -> 
 {
     match slot {
         None => None,
-        Some(held) => if is_still_live(limit, mark, held) {
+        Some(held) => if held.is_live(limit, mark) {
             Some(held)
         } else {
             None
@@ -52,7 +54,7 @@ pub(crate) fn lost_at(
 {
     match slot {
         None => None,
-        Some(held) => if held.required && !is_still_live(limit, mark, held) {
+        Some(held) => if held.required && !held.is_live(limit, mark) {
             Some(held)
         } else {
             None
@@ -74,9 +76,9 @@ pub(crate) fn is_lost(
     match slot {
         None => false,
         Some(held) => if in_flow {
-            held.required && !is_still_live(limit, mark, held)
+            held.required && !held.is_live(limit, mark)
         } else {
-            !is_still_live(limit, mark, held) && held.required
+            !held.is_live(limit, mark) && held.required
         },
     }
 }
@@ -92,7 +94,7 @@ pub(crate) fn needed_at(
 {
     match slot {
         None => None,
-        Some(held) => if held.required && is_still_live(limit, mark, held) {
+        Some(held) => if held.required && held.is_live(limit, mark) {
             Some(held)
         } else {
             None
@@ -216,7 +218,7 @@ fn give_up(slot: &mut Option<candidate_t>, limit: u64, mark: yaml_mark_t)
     ensures { slot.new ≡ still_held limit mark slot.old }
 {
     if let Some(held) = *slot {
-        if !is_still_live(limit, mark, held) {
+        if !held.is_live(limit, mark) {
             empty(slot);
         }
     }
@@ -249,35 +251,37 @@ fn step_of(held: Option<candidate_t>) -> u64
     }
 }
 
-/// Gives up what is stale at a mark, and changes the depth after the lexeme of a step. There is room for the one that
-/// it enters.
-#[inline(always)]
-pub(crate) fn move_slots(slots: &mut slots_t, step: step_t, limit: u64, mark: yaml_mark_t)
-    requires flow { step.in_flow ≡ nat_lt 0 (vec_len slots.old.outer) }
-    requires empty { slots.old.not_simple_keys ≡ empty_slots slots.old.outer.items }
-    requires nested { AreNested slots.old.outer.items }
-    requires room { is_flow_start step.kind ≡ true → vec_len slots.old.outer < vec_capacity slots.old.outer }
-    ensures outer { slots.new.outer.items
-        ≡ nested_outer step.kind (map (still_held limit mark) slots.old.outer.items)
-        (still_held limit mark slots.old.top) }
-    ensures top { slots.new.top
-        ≡ nested_top step.kind (map (still_held limit mark) slots.old.outer.items)
-        (still_held limit mark slots.old.top) }
-    ensures empty { slots.new.not_simple_keys ≡ empty_slots slots.new.outer.items }
-    ensures awaited { slots.new.awaited ≡ step_of (lowest (slots.new.outer.items ++ slots.new.top ∷ [])) }
-{
-    give_up(&mut slots.top, limit, mark);
-    if !step.in_flow && !is_flow_start(step.kind) {
-        slots.awaited = step_of(slots.top);
-        return;
+impl slots_t {
+    /// Moves on after the lexeme of a step: gives up what is stale at a mark, and changes the depth. There is room for
+    /// the one that it enters.
+    #[inline(always)]
+    pub(crate) fn move_on(&mut self, step: step_t, limit: u64, mark: yaml_mark_t)
+        requires flow { step.in_flow ≡ nat_lt 0 (vec_len self.old.outer) }
+        requires empty { self.old.not_simple_keys ≡ empty_slots self.old.outer.items }
+        requires nested { AreNested self.old.outer.items }
+        requires room { is_flow_start step.kind ≡ true → vec_len self.old.outer < vec_capacity self.old.outer }
+        ensures outer { self.new.outer.items
+            ≡ nested_outer step.kind (map (still_held limit mark) self.old.outer.items)
+            (still_held limit mark self.old.top) }
+        ensures top { self.new.top
+            ≡ nested_top step.kind (map (still_held limit mark) self.old.outer.items)
+            (still_held limit mark self.old.top) }
+        ensures empty { self.new.not_simple_keys ≡ empty_slots self.new.outer.items }
+        ensures awaited { self.new.awaited ≡ step_of (lowest (self.new.outer.items ++ self.new.top ∷ [])) }
+    {
+        give_up(&mut self.top, limit, mark);
+        if !step.in_flow && !is_flow_start(step.kind) {
+            self.awaited = step_of(self.top);
+            return;
+        }
+        let below = give_up_stale(&mut self.outer, self.not_simple_keys, limit, mark);
+        let empty = if nests(step.kind) {
+            self.nest(step.kind);
+            count_empty(&self.outer, below)
+        } else {
+            below
+        };
+        self.awaited = step_of(lowest(&self.outer, empty, self.top));
+        self.not_simple_keys = empty;
     }
-    let below = give_up_stale(&mut slots.outer, slots.not_simple_keys, limit, mark);
-    let empty = if nests(step.kind) {
-        nest(slots, step.kind);
-        count_empty(&slots.outer, below)
-    } else {
-        below
-    };
-    slots.awaited = step_of(lowest(&slots.outer, empty, slots.top));
-    slots.not_simple_keys = empty;
 }

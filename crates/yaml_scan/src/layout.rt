@@ -27,7 +27,7 @@ use crate::allowed::is_allowed_after;
 use crate::depth::slots_t;
 use crate::follower::{follower_of, lay_followed};
 use crate::groups::{block_t, group_t};
-use crate::keys::{completed_by, is_lost, move_slots, settle};
+use crate::keys::{completed_by, is_lost, settle};
 use crate::kind::{is_last, step_t};
 use crate::levels::{close_levels, put_key};
 use crate::scanner::{root_after, state_t};
@@ -73,7 +73,7 @@ fn keep_candidates(slots: &mut slots_t, step: step_t, limit: u64, mark: yaml_mar
     ensures awaited { slots.new.awaited ≡ step_of (lowest (slots.new.outer.items ++ slots.new.top ∷ [])) }
 {
     settle(&mut slots.top, step.kind, step.allowed, step.new);
-    move_slots(slots, step, limit, mark);
+    slots.move_on(step, limit, mark);
 }
 
 /// Lays the lexeme of a step, which was read to a mark: changes levels and candidates, and marks the group that it

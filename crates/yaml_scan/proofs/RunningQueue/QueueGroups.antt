@@ -67,11 +67,6 @@ set_keyed [] at y opens l g = absurd (omega arith)
 set_keyed (z ∷ ys) zero y opens l g = rw g refl
 set_keyed (z ∷ ys) (suc at) y opens l g = ap (λ (r : List group_t). z ∷ r) (set_keyed ys at y opens (omega arith) g)
 
-pub keyed_length : (ys : List group_t) (at : ℕ) (opens : Bool) → length (keyed_at at opens ys) ≡ length ys
-keyed_length [] at opens = refl
-keyed_length (y ∷ ys) zero opens = refl
-keyed_length (y ∷ ys) (suc at) opens = ap suc (keyed_length ys at opens)
-
 -- A LEAD IS DROPPED
 pub early_dropped : (old new : queue_t) → (nat_lt 0 old.early && nat_eq (length old.groups.items) 1) ≡ true → new.groups.items ≡ old.groups.items → new.done ≡ old.done → new.early + 1 ≡ old.early → new.front ≡ old.front → DropsLead old new
 early_dropped old new t g d a f = go old.groups.items refl
