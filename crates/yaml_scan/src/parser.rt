@@ -265,71 +265,71 @@ impl<'a> yaml_parser_t<'a> {
             lead: yaml_token_t::empty(),
         }
     }
-}
 
-/// The token that was shown, or the empty one.
-fn shown<'s>(parser: &'s yaml_parser_t<'_>) -> &'s yaml_token_t
-    ensures { token_of result.now ≡ token_shown parser.now }
-{
-    if !parser.session.peeked {
-        &parser.empty
-    } else if parser.state.layout.queue.has_lead() {
-        &parser.lead
-    } else {
-        &parser.state.layout.queue.groups.front().unwrap().token
-    }
-}
-
-/// Makes the steps that the next token needs, and has it shown. `false` if the session ended with a fault instead.
-pub(crate) fn show(parser: &mut yaml_parser_t) -> bool
-    ensures { Shows parser.old result parser.new }
-{
-    if parser.session.over {
-        return true;
-    }
-    match settle(
-        &mut parser.text,
-        &mut parser.state,
-        parser.input,
-        parser.setting,
-        parser.session.peeked,
-    ) {
-        Ok(_) => {
-            parser.state.layout.queue.show_lead(&mut parser.lead);
-            parser.session.peeked = true;
-            true
-        }
-        Err(stop) => {
-            let fault = fault_at(stop, &parser.state.fault);
-            parser.session.end(&mut parser.state.fault, fault);
-            false
+    /// The token that was shown, or the empty one.
+    fn shown(&self) -> &yaml_token_t
+        ensures { token_of result.now ≡ token_shown self.now }
+    {
+        if !self.session.peeked {
+            &self.empty
+        } else if self.state.layout.queue.has_lead() {
+            &self.lead
+        } else {
+            &self.state.layout.queue.groups.front().unwrap().token
         }
     }
-}
 
-/// The fault that has ended the session.
-fn last_fault(parser: &yaml_parser_t) -> yaml_fault_t
-    requires { (f : Fault) × (parser.now.session.fault ≡ Some f) }
-    ensures { parser.now.session.fault ≡ Some (fault_of result) }
-{
-    if !parser.session.failed {
-        unreachable!();
+    /// Makes the steps that the next token needs, and has it shown. `false` if the session ended with a fault instead.
+    fn show(&mut self) -> bool
+        ensures { Shows self.old result self.new }
+    {
+        if self.session.over {
+            return true;
+        }
+        match settle(
+            &mut self.text,
+            &mut self.state,
+            self.input,
+            self.setting,
+            self.session.peeked,
+        ) {
+            Ok(_) => {
+                self.state.layout.queue.show_lead(&mut self.lead);
+                self.session.peeked = true;
+                true
+            }
+            Err(stop) => {
+                let fault = fault_at(stop, &self.state.fault);
+                self.session.end(&mut self.state.fault, fault);
+                false
+            }
+        }
     }
-    match parser.state.fault {
-        Some(fault) => fault,
-        None => unreachable!(),
-    }
-}
 
-/// Takes the token that was shown.
-fn take_shown(parser: &mut yaml_parser_t) -> yaml_token_t
-    requires { parser.old.session.peeked ≡ true }
-    ensures token { token_of result ≡ token_shown parser.old }
-    ensures left { parser.new ≡ after_call parser.old SKIP }
-{
-    let token = take_head(&parser.text, &mut parser.state);
-    parser.session.pass(&token);
-    token
+    /// The fault that has ended the session.
+    fn last_fault(&self) -> yaml_fault_t
+        requires { (f : Fault) × (self.now.session.fault ≡ Some f) }
+        ensures { self.now.session.fault ≡ Some (fault_of result) }
+    {
+        if !self.session.failed {
+            unreachable!();
+        }
+        match self.state.fault {
+            Some(fault) => fault,
+            None => unreachable!(),
+        }
+    }
+
+    /// Takes the token that was shown.
+    fn take_shown(&mut self) -> yaml_token_t
+        requires { self.old.session.peeked ≡ true }
+        ensures token { token_of result ≡ token_shown self.old }
+        ensures left { self.new ≡ after_call self.old SKIP }
+    {
+        let token = take_head(&self.text, &mut self.state);
+        self.session.pass(&token);
+        token
+    }
 }
 
 /// Takes the next token. After the stream end, and after a fault, it is the empty one.
@@ -377,7 +377,7 @@ pub fn yaml_parser_skip(parser: &mut yaml_parser_t)
     requires { parser.old.session.peeked ≡ true }
     ensures { parser.new ≡ after_call parser.old SKIP }
 {
-    let _ = take_shown(parser);
+    let _ = parser.take_shown();
 }
 
 /// Shows the next token, which the next scan or skip takes. After the stream end, and after a fault, it is the empty
@@ -396,10 +396,10 @@ pub fn yaml_parser_peek<'s>(
     ensures local { IsAnsweredAlike parser.old PEEK (peek_result (copied result)) }
     ensures marks { IsCountedIn parser.old (peek_result (copied result)) }
 {
-    if show(parser) {
-        Ok(shown(parser))
+    if parser.show() {
+        Ok(parser.shown())
     } else {
-        Err(last_fault(parser))
+        Err(parser.last_fault())
     }
 }
 
