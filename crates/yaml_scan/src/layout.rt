@@ -29,7 +29,7 @@ use crate::follower::{follower_of, lay_followed};
 use crate::groups::{block_t, group_t};
 use crate::keys::{completed_by, is_lost, settle};
 use crate::kind::{is_last, step_t};
-use crate::levels::{close_levels, put_key};
+use crate::levels::close_levels;
 use crate::scanner::{root_after, state_t};
 use crate::sink::{
     hand_keyless, hand_on, hand_token, has_room_for_both, has_room_for_laid, no_sink_t, said_len,
@@ -106,7 +106,7 @@ pub(crate) fn lay_lexeme(
     let closed = close_levels(&mut state.layout.levels, step, front);
     let completed = completed_by(kind, state.slots.top, state.limit, start);
     keep_candidates(&mut state.slots, step, state.limit, reach);
-    let opens = put_key(&mut state.layout, step, completed);
+    let opens = state.layout.put_key(step, completed);
     state.layout.queue.keep_early(closed.early, front);
     state.allowed = is_allowed_after(kind, step.in_flow, completed.is_none(), passed_break);
     state.reach = reach;

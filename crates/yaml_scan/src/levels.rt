@@ -157,33 +157,6 @@ pub(crate) fn open_level(levels: &mut Vec<u64>, opens: bool, column: u64)
     }
 }
 
-/// The open levels, the greatest last, and the queue.
-#[derive(Drop)]
-pub(crate) struct layout_t {
-    pub levels: Vec<u64>,
-    pub queue: queue_t,
-}
-
-/// Completes a candidate. Outside flow there is room for a level.
-#[inline(always)]
-fn complete(layout: &mut layout_t, in_flow: bool, held: candidate_t)
-    requires falls { IsFalling (reverse layout.old.levels.items) }
-    requires fits { Fitting (Some held) layout.old.queue.done layout.old.queue.groups.items }
-    requires room { in_flow ≡ false → vec_len layout.old.levels < vec_capacity layout.old.levels }
-    ensures levels { reverse layout.new.levels.items
-        ≡ (if is_new in_flow held.start.column (reverse layout.old.levels.items) then held.start.column ∷ [] else [])
-        ++ reverse layout.old.levels.items }
-    ensures groups { layout.new.queue.groups.items
-        ≡ completed_in in_flow (Some held) (reverse layout.old.levels.items) layout.old.queue.done
-        layout.old.queue.groups.items }
-    ensures rest { KeepsRest layout.old.queue layout.new.queue }
-{
-    let opens = is_new_level(&layout.levels, in_flow, held.start.column);
-    let at = (held.step - 1 - layout.queue.done) as usize;
-    layout.queue.mark_key(at, opens);
-    open_level(&mut layout.levels, opens, held.start.column);
-}
-
 /// The start that a kind of lexeme opens a block collection with, or none.
 #[inline(always)]
 pub(crate) fn block_start(opens: bool, kind: yaml_lexeme_kind_t) -> block_t
@@ -213,30 +186,55 @@ fn begin(levels: &mut Vec<u64>, step: step_t) -> block_t
     block_start(opens, step.kind)
 }
 
-/// Completes a candidate, or opens a level at the lexeme of a step. Outside flow there is room for one.
-#[inline(always)]
-pub(crate) fn put_key(
-    layout: &mut layout_t,
-    step: step_t,
-    completed: Option<candidate_t>,
-) -> block_t
-    requires falls { IsFalling (reverse layout.old.levels.items) }
-    requires fits { Fitting completed layout.old.queue.done layout.old.queue.groups.items }
-    requires room { step.in_flow ≡ false → vec_len layout.old.levels < vec_capacity layout.old.levels }
-    ensures levels { reverse layout.new.levels.items
-        ≡ opened step.in_flow completed step.kind step.new.start (reverse layout.old.levels.items) }
-    ensures groups { layout.new.queue.groups.items
-        ≡ completed_in step.in_flow completed (reverse layout.old.levels.items) layout.old.queue.done
-        layout.old.queue.groups.items }
-    ensures opens { result
-        ≡ opened_by step.in_flow completed step.kind step.new.start.column (reverse layout.old.levels.items) }
-    ensures rest { KeepsRest layout.old.queue layout.new.queue }
-{
-    match completed {
-        Some(held) => {
-            complete(layout, step.in_flow, held);
-            block_t::NONE
+/// The open levels, the greatest last, and the queue.
+#[derive(Drop)]
+pub(crate) struct layout_t {
+    pub levels: Vec<u64>,
+    pub queue: queue_t,
+}
+
+impl layout_t {
+    /// Completes a candidate. Outside flow there is room for a level.
+    #[inline(always)]
+    fn complete(&mut self, in_flow: bool, held: candidate_t)
+        requires falls { IsFalling (reverse self.old.levels.items) }
+        requires fits { Fitting (Some held) self.old.queue.done self.old.queue.groups.items }
+        requires room { in_flow ≡ false → vec_len self.old.levels < vec_capacity self.old.levels }
+        ensures levels { reverse self.new.levels.items
+            ≡ (if is_new in_flow held.start.column (reverse self.old.levels.items) then held.start.column ∷ [] else [])
+            ++ reverse self.old.levels.items }
+        ensures groups { self.new.queue.groups.items
+            ≡ completed_in in_flow (Some held) (reverse self.old.levels.items) self.old.queue.done
+            self.old.queue.groups.items }
+        ensures rest { KeepsRest self.old.queue self.new.queue }
+    {
+        let opens = is_new_level(&self.levels, in_flow, held.start.column);
+        let at = (held.step - 1 - self.queue.done) as usize;
+        self.queue.mark_key(at, opens);
+        open_level(&mut self.levels, opens, held.start.column);
+    }
+
+    /// Completes a candidate, or opens a level at the lexeme of a step. Outside flow there is room for one.
+    #[inline(always)]
+    pub(crate) fn put_key(&mut self, step: step_t, completed: Option<candidate_t>) -> block_t
+        requires falls { IsFalling (reverse self.old.levels.items) }
+        requires fits { Fitting completed self.old.queue.done self.old.queue.groups.items }
+        requires room { step.in_flow ≡ false → vec_len self.old.levels < vec_capacity self.old.levels }
+        ensures levels { reverse self.new.levels.items
+            ≡ opened step.in_flow completed step.kind step.new.start (reverse self.old.levels.items) }
+        ensures groups { self.new.queue.groups.items
+            ≡ completed_in step.in_flow completed (reverse self.old.levels.items) self.old.queue.done
+            self.old.queue.groups.items }
+        ensures opens { result
+            ≡ opened_by step.in_flow completed step.kind step.new.start.column (reverse self.old.levels.items) }
+        ensures rest { KeepsRest self.old.queue self.new.queue }
+    {
+        match completed {
+            Some(held) => {
+                self.complete(step.in_flow, held);
+                block_t::NONE
+            }
+            None => begin(&mut self.levels, step),
         }
-        None => begin(&mut layout.levels, step),
     }
 }
