@@ -30,7 +30,7 @@ use crate::groups::{block_t, group_t};
 use crate::keys::{completed_by, is_lost, settle};
 use crate::kind::{is_last, step_t};
 use crate::levels::close_levels;
-use crate::scanner::{root_after, state_t};
+use crate::scanner::state_t;
 use crate::sink::{
     hand_keyless, hand_on, hand_token, has_room_for_both, has_room_for_laid, no_sink_t, said_len,
     yaml_token_sink_t,
@@ -252,7 +252,7 @@ fn check_reach(
         (λ stop. Refuses before (scanner_of text.now state.old) (scanner_of text.now state.new) stop) }
 {
     let reach = lexeme.reach;
-    let lost = is_lost(root_after(state, step), step.in_flow, state.limit, reach);
+    let lost = is_lost(state.root_after(step), step.in_flow, state.limit, reach);
     if state.near <= reach.index || lost {
         state.there = reach;
         return Err(stop_after(text, state, step.in_flow, step.kind, step.allowed));

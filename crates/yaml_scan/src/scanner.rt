@@ -46,31 +46,6 @@ pub(crate) struct state_t {
     pub made: u64,
 }
 
-/// No candidates.
-#[inline(always)]
-fn no_slots(alloc: Global) -> slots_t {
-    slots_t {
-        outer: Vec::new(alloc),
-        not_simple_keys: 0,
-        top: None,
-        awaited: 0,
-    }
-}
-
-/// No levels, and an empty queue.
-#[inline(always)]
-fn no_layout(alloc: Global, mark: yaml_mark_t) -> layout_t {
-    layout_t {
-        levels: Vec::new(alloc),
-        queue: queue_t {
-            groups: VecDeque::new(alloc),
-            done: 0,
-            early: 0,
-            front: mark,
-        },
-    }
-}
-
 impl state_t {
     /// Takes the state out. What is left here has no candidates, no levels and no groups. Each field is moved to where
     /// the result goes, so that the state is not moved twice.
@@ -94,39 +69,104 @@ impl state_t {
             made: self.made,
         }
     }
-}
 
-/// What is wrong with a kind after the gap, if it needs an allowed key and none is allowed.
-#[inline(always)]
-pub(crate) fn refused_by(
-    state: &state_t,
-    in_flow: bool,
-    kind: yaml_lexeme_kind_t,
-    allowed: bool,
-) -> Option<&'static str>
-    ensures { (text : Text) → option_copied result ≡ refused_in (scanner_of text state.now) in_flow kind allowed }
-{
-    if in_flow || allowed {
-        return None;
+    /// What is wrong with a kind after the gap, if it needs an allowed key and none is allowed.
+    #[inline(always)]
+    pub(crate) fn refused_by(
+        &self,
+        in_flow: bool,
+        kind: yaml_lexeme_kind_t,
+        allowed: bool,
+    ) -> Option<&'static str>
+        ensures { (text : Text) → option_copied result ≡ refused_in (scanner_of text self.now) in_flow kind allowed }
+    {
+        if in_flow || allowed {
+            return None;
+        }
+        let completed = completed_by(kind, self.slots.top, self.limit, self.front);
+        problem(kind, completed.is_none())
     }
-    let completed = completed_by(kind, state.slots.top, state.limit, state.front);
-    problem(kind, completed.is_none())
+
+    /// The required candidate that a lexeme of a kind after the gap would clear or replace.
+    #[inline(always)]
+    pub(crate) fn cleared_by(
+        &self,
+        in_flow: bool,
+        kind: yaml_lexeme_kind_t,
+        allowed: bool,
+    ) -> Option<candidate_t>
+        ensures { (text : Text) → result ≡ cleared_in (scanner_of text self.now) in_flow kind allowed }
+    {
+        if !is_colon(kind) && (!is_candidate(kind) || allowed) && !in_flow {
+            needed_at(self.slots.top, self.limit, self.front)
+        } else {
+            None
+        }
+    }
+
+    /// What a lexeme of a kind after the gap is read and laid with.
+    #[inline(always)]
+    pub(crate) fn step_of(&self, in_flow: bool, kind: yaml_lexeme_kind_t, allowed: bool) -> step_t
+        requires flow { in_flow ≡ nat_lt 0 (vec_len self.now.slots.outer) }
+        requires falls { IsFalling (reverse self.now.layout.levels.items) }
+        requires line { self.now.front.line + 1 < 2 ^ 64 }
+        requires made { self.now.made + 1 < 2 ^ 64 }
+        ensures kind { result.kind ≡ kind }
+        ensures flow { result.in_flow ≡ in_flow }
+        ensures allowed { result.allowed ≡ allowed }
+        ensures new { (text : Text) → IsNewHeld (scanner_of text self.now)
+            (met_in (scanner_of text self.now) result) result.in_flow result.context.level result.new }
+        ensures depth { result.context.depth ≡ vec_len self.now.slots.outer }
+    {
+        let start = start_after(kind, self.front);
+        let level = level_at(&self.layout.levels, in_flow, kind, start);
+        step_t {
+            kind,
+            in_flow,
+            allowed,
+            new: new_candidate(self.made + 1, start, in_flow, level),
+            context: yaml_context_t {
+                depth: depth_at(&self.slots, in_flow),
+                level,
+            },
+        }
+    }
+
+    /// The candidate of depth 0 after the lexeme of a step.
+    #[inline(always)]
+    pub(crate) fn root_after(&self, step: step_t) -> Option<candidate_t>
+        requires { step.in_flow ≡ nat_lt 0 (vec_len self.now.slots.outer) }
+        ensures { result ≡ root_of self.now.slots.outer.items
+            (slot_after step.kind step.allowed step.new self.now.slots.top) }
+    {
+        let mut top = self.slots.top;
+        settle(&mut top, step.kind, step.allowed, step.new);
+        root_at(&self.slots.outer, top, step.in_flow)
+    }
 }
 
-/// The required candidate that a lexeme of a kind after the gap would clear or replace.
+/// No candidates.
 #[inline(always)]
-pub(crate) fn cleared_by(
-    state: &state_t,
-    in_flow: bool,
-    kind: yaml_lexeme_kind_t,
-    allowed: bool,
-) -> Option<candidate_t>
-    ensures { (text : Text) → result ≡ cleared_in (scanner_of text state.now) in_flow kind allowed }
-{
-    if !is_colon(kind) && (!is_candidate(kind) || allowed) && !in_flow {
-        needed_at(state.slots.top, state.limit, state.front)
-    } else {
-        None
+fn no_slots(alloc: Global) -> slots_t {
+    slots_t {
+        outer: Vec::new(alloc),
+        not_simple_keys: 0,
+        top: None,
+        awaited: 0,
+    }
+}
+
+/// No levels, and an empty queue.
+#[inline(always)]
+fn no_layout(alloc: Global, mark: yaml_mark_t) -> layout_t {
+    layout_t {
+        levels: Vec::new(alloc),
+        queue: queue_t {
+            groups: VecDeque::new(alloc),
+            done: 0,
+            early: 0,
+            front: mark,
+        },
     }
 }
 
@@ -153,49 +193,4 @@ fn new_candidate(step: u64, start: yaml_mark_t, in_flow: bool, level: Option<u64
         start,
         required: is_level(in_flow, level, start.column),
     }
-}
-
-/// What a lexeme of a kind after the gap is read and laid with.
-#[inline(always)]
-pub(crate) fn step_of(
-    state: &state_t,
-    in_flow: bool,
-    kind: yaml_lexeme_kind_t,
-    allowed: bool,
-) -> step_t
-    requires flow { in_flow ≡ nat_lt 0 (vec_len state.now.slots.outer) }
-    requires falls { IsFalling (reverse state.now.layout.levels.items) }
-    requires line { state.now.front.line + 1 < 2 ^ 64 }
-    requires made { state.now.made + 1 < 2 ^ 64 }
-    ensures kind { result.kind ≡ kind }
-    ensures flow { result.in_flow ≡ in_flow }
-    ensures allowed { result.allowed ≡ allowed }
-    ensures new { (text : Text) → IsNewHeld (scanner_of text state.now)
-        (met_in (scanner_of text state.now) result) result.in_flow result.context.level result.new }
-    ensures depth { result.context.depth ≡ vec_len state.now.slots.outer }
-{
-    let start = start_after(kind, state.front);
-    let level = level_at(&state.layout.levels, in_flow, kind, start);
-    step_t {
-        kind,
-        in_flow,
-        allowed,
-        new: new_candidate(state.made + 1, start, in_flow, level),
-        context: yaml_context_t {
-            depth: depth_at(&state.slots, in_flow),
-            level,
-        },
-    }
-}
-
-/// The candidate of depth 0 after the lexeme of a step.
-#[inline(always)]
-pub(crate) fn root_after(state: &state_t, step: step_t) -> Option<candidate_t>
-    requires { step.in_flow ≡ nat_lt 0 (vec_len state.now.slots.outer) }
-    ensures { result ≡ root_of state.now.slots.outer.items
-        (slot_after step.kind step.allowed step.new state.now.slots.top) }
-{
-    let mut top = state.slots.top;
-    settle(&mut top, step.kind, step.allowed, step.new);
-    root_at(&state.slots.outer, top, step.in_flow)
 }

@@ -18,7 +18,7 @@ use crate::depth::is_flow_start;
 use crate::keys::{is_lost, root_at};
 use crate::kind::step_t;
 use crate::layout::{end_character, end_laid, end_queued, lay_read};
-use crate::scanner::{cleared_by, refused_by, state_t, step_of};
+use crate::scanner::state_t;
 use crate::sink::{no_sink_t, yaml_token_sink_t};
 use crate::source::{
     block_reader_t, directive_reader_t, gap_end, kind_at, name_reader_t, plain_reader_t,
@@ -93,10 +93,10 @@ fn refuse_kind(
         × (state.new ≡ state.old)) (λ stop. Refuses before (scanner_of text.now state.old)
         (scanner_of text.now state.new) stop) }
 {
-    if refused_by(state, in_flow, kind, allowed).is_some() {
+    if state.refused_by(in_flow, kind, allowed).is_some() {
         return Err(stop_at_kind(text, state, in_flow, kind));
     }
-    if cleared_by(state, in_flow, kind, allowed).is_some() {
+    if state.cleared_by(in_flow, kind, allowed).is_some() {
         return Err(stop_at_start(text, state, in_flow, kind));
     }
     Ok(())
@@ -124,7 +124,7 @@ pub(crate) fn begin_step(
         Err(stop) => return Err(stopped(stop)),
     }
     match ensure_room(state, in_flow, kind) {
-        Ok(_) => Ok(step_of(state, in_flow, kind, allowed)),
+        Ok(_) => Ok(state.step_of(in_flow, kind, allowed)),
         Err(stop) => Err(stopped(stop)),
     }
 }

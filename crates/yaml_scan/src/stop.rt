@@ -21,7 +21,7 @@ use crate::allowed::is_key_allowed;
 use crate::depth::candidate_t;
 use crate::keys::{lost_at, root};
 use crate::kind::start_after;
-use crate::scanner::{cleared_by, refused_by, root_after, state_t, step_of};
+use crate::scanner::state_t;
 use std::alloc::AllocError;
 use yaml_lexeme::{yaml_lexeme_fault, yaml_lexeme_kind_t, yaml_refusal_t};
 use yaml_text::{yaml_error_type_t, yaml_fault_t, yaml_mark_t, yaml_text_t};
@@ -238,7 +238,7 @@ pub(crate) fn stop_at_kind(
 {
     let front = state.front;
     let allowed = is_key_allowed(state.allowed, in_flow, state.reach, front);
-    match refused_by(state, in_flow, kind, allowed) {
+    match state.refused_by(in_flow, kind, allowed) {
         Some(problem) => {
             let fault = make_scanner_fault(problem, front, None, front);
             keep_nearest(text, state, fault)
@@ -265,7 +265,7 @@ pub(crate) fn stop_at_start(
 {
     let front = state.front;
     let allowed = is_key_allowed(state.allowed, in_flow, state.reach, front);
-    match cleared_by(state, in_flow, kind, allowed) {
+    match state.cleared_by(in_flow, kind, allowed) {
         Some(held) => stop_without(text, state, held, start_after(kind, front)),
         None => unreachable!(),
     }
@@ -312,8 +312,8 @@ pub(crate) fn stop_after(
     if state.near <= there.index {
         return stop_near(text, state);
     }
-    let step = step_of(state, in_flow, kind, allowed);
-    match lost_at(root_after(state, step), state.limit, there) {
+    let step = state.step_of(in_flow, kind, allowed);
+    match lost_at(state.root_after(step), state.limit, there) {
         Some(held) => stop_without(text, state, held, there),
         None => unreachable!(),
     }
