@@ -55,11 +55,11 @@ class Reading:
     def is_required(self, slot):
         return slot is not None and self.lexemes[slot][5]
 
-    def close(self, kind, front, start):
+    def close(self, kind, gap_end, start):
         """The levels that stay open, and the marks of the block ends."""
         levels, ends = list(self.levels), []
         while len(self.slots) == 1 and levels and (kind in CLOSERS or levels[-1] > start[2]):
-            ends.append(front if kind == "STREAM_END" and levels[-1] > front[2] else start)
+            ends.append(gap_end if kind == "STREAM_END" and levels[-1] > gap_end[2] else start)
             levels.pop()
         return levels, ends
 
@@ -67,24 +67,24 @@ class Reading:
         """Asks for what comes next, and takes it; true at the stream end."""
         flow = len(self.slots) > 1
         gap = (yield f"gap {int(flow)} {int(self.allowed)} {self.reach[0]} {self.text}").split(" ")
-        front, broken = mark(gap[0]), gap[1] == "true"
+        gap_end, broken = mark(gap[0]), gap[1] == "true"
         root, top = self.slots[0], self.slots[-1]
         if self.is_required(root):
-            self.refuse_stale(self.lexemes[root][1], front)
-        kind = yield f"kind {int(flow)} {front[0]} {self.text}"
+            self.refuse_stale(self.lexemes[root][1], gap_end)
+        kind = yield f"kind {int(flow)} {gap_end[0]} {self.text}"
         if kind == "-":
-            raise Refused(front, front, "while scanning for the next token; found character that cannot start any token")
+            raise Refused(gap_end, gap_end, "while scanning for the next token; found character that cannot start any token")
         allowed = self.allowed or (not flow and broken)
-        start = (front[0], front[1] + 1, 0) if kind == "STREAM_END" and front[2] > 0 else front
-        live = top is not None and self.is_live(top, front)
+        start = (gap_end[0], gap_end[1] + 1, 0) if kind == "STREAM_END" and gap_end[2] > 0 else gap_end
+        live = top is not None and self.is_live(top, gap_end)
         key = top if kind == "VALUE" and live else None
         if not flow and not allowed and kind in REFUSED and key is None:
-            raise Refused(front, front, f"-; {REFUSED[kind]} are not allowed in this context")
+            raise Refused(gap_end, gap_end, f"-; {REFUSED[kind]} are not allowed in this context")
         if kind != "VALUE" and (allowed or kind not in CANDIDATES) and live and self.is_required(top):
             raise Refused(self.lexemes[top][1], start, NO_COLON)
-        levels, ends = self.close(kind, front, start)
+        levels, ends = self.close(kind, gap_end, start)
         level = levels[-1] if levels else None
-        said = yield f"lex {len(self.slots) - 1} {'-' if level is None else level} {front[0]} {self.text}"
+        said = yield f"lex {len(self.slots) - 1} {'-' if level is None else level} {gap_end[0]} {self.text}"
         if said.startswith("FAULT "):
             raise Refused(*[mark(m) for m in said.split(" ")[1:3]], said.split(" ", 3)[3])
         *parts, _, end, reach, passed = said.split(" ")[2:]

@@ -8,7 +8,7 @@ use Rattle.yaml_lexeme.specs.Lexeme.{Lexeme as yaml_lexeme_t}
 use Rattle.yaml_lexeme.specs.Kind.{kind_at}
 use Rattle.yaml_lexeme.specs.Lex.{lex, in_flow}
 use Rattle.yaml_lexeme.specs.Answers.{lexeme_at, answer}
-use Rattle.yaml_lexeme.specs.Order.{IsAhead, is_stream_end}
+use Rattle.yaml_lexeme.specs.Order.{IsBeyond, is_stream_end}
 use Rattle.yaml_lexeme.specs.Place.{Place, place_at}
 use Rattle.yaml_lexeme.specs.Counted.{IsMarkOf}
 use Rattle.yaml_lexeme.specs.Reading.{Read}
@@ -35,7 +35,7 @@ reaches cs k c n x l stands some e = go (lex k c (place_at cs n)) refl e
         let s = lexeme_spans k c (place_at cs n) f stands (λ h. true≢false (sym (ap is_stream_end h) ∙ some)) is in
         let b = ahead_place cs n 1 s.2.between l s.2.taken in
         let at = count_to (length cs) s.2.between in
-        let q = ahead_place cs at 0 f.end b.within (subst (λ (p : Place). IsAhead 0 p f.end) b.is s.2.read) in
+        let q = ahead_place cs at 0 f.end b.within (subst (λ (p : Place). IsBeyond 0 p f.end) b.is s.2.read) in
         let mark = ap (λ (y : yaml_lexeme_t). y.reach) (sym v) ∙ s.1 ∙ ap (λ (p : Place). p.mark) q.is in
         (count_to (length cs) f.end, record { within = q.within; mark_is = mark })
     go (Err f) is a = absurd cc

@@ -92,18 +92,18 @@ fn read_after(alloc: Global, text: &yaml_text_t, at: yaml_mark_t) -> Option<yaml
     requires { (n : ℕ) × IsMarkOf text.now.chars at n }
     ensures { IfSome result (λ mark. (n : ℕ) × IsMarkOf text.now.chars mark n) }
 {
-    let (front, _) = yaml_gap(text, at, false, true);
+    let (gap_end, _) = yaml_gap(text, at, false, true);
     let context = yaml_context_t {
         depth: 0,
         level: Some(0),
     };
-    let Some(kind) = yaml_lexeme_kind(text, front, false) else {
+    let Some(kind) = yaml_lexeme_kind(text, gap_end, false) else {
         return None;
     };
     if is_end(kind) {
         return None;
     }
-    match yaml_lexeme_at(alloc, text, front, kind, context) {
+    match yaml_lexeme_at(alloc, text, gap_end, kind, context) {
         Ok(lexeme) => Some(reach(&lexeme)),
         Err(_) => None,
     }

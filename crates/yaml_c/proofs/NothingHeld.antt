@@ -43,11 +43,11 @@ no_parser = record {
         };
         done = 0;
         early = 0;
-        front = zero_mark;
+        early_mark = zero_mark;
       };
     };
     reach = zero_mark;
-    front = zero_mark;
+    gap_end = zero_mark;
     there = zero_mark;
     taken = 0;
     made = 0;

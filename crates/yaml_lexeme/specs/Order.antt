@@ -12,7 +12,7 @@ use Rattle.yaml_lexeme.specs.Lex.{lex, in_flow}
 use Rattle.yaml_lexeme.specs.Lexeme.{Lexeme}
 
 -- q is n characters or more after p, in the text
-pub record IsAhead (n : ℕ) (p q : Place) : Type 0 where
+pub record IsBeyond (n : ℕ) (p q : Place) : Type 0 where
   pub count : ℕ
   pub least : n ≤ count
   pub within : count ≤ length p.rest
@@ -28,8 +28,8 @@ pub record IsAfter (n : ℕ) (a b : yaml_mark_t) : Type 0 where
 pub record Spans (n : ℕ) (p : Place) (end : yaml_mark_t) (q : Place) : Type 0 where
   pub between : Place
   pub is : end ≡ between.mark
-  pub taken : IsAhead n p between
-  pub read : IsAhead 0 between q
+  pub taken : IsBeyond n p between
+  pub read : IsBeyond 0 between q
 
 -- A lexeme of a kind that is at p, other than the stream end, starts at p, takes a character or more, and reaches
 -- to its end or further: all of these are places of the text.
@@ -55,13 +55,14 @@ StreamEndOrder = (c : yaml_context_t) (p : Place) (f : Found Lexeme) → lex kin
     × (f.value.start_mark.column ≡ 0)
 
 -- A problem is where its lexeme would start, or further on: at a place of the text.
-abbrev pub OffenceIsAhead : Type 0
-OffenceIsAhead = (k : yaml_lexeme_kind_t) (c : yaml_context_t) (p : Place) (e : Offence)
-    → lex k c p ≡ Err e → IsAhead 0 p e.at
+abbrev pub OffenceIsBeyond : Type 0
+OffenceIsBeyond = (k : yaml_lexeme_kind_t) (c : yaml_context_t) (p : Place) (e : Offence)
+    → lex k c p ≡ Err e → IsBeyond 0 p e.at
 
 -- a gap ends where it starts, or further on
 abbrev pub GapOrder : Type 0
-GapOrder = (flow allowed : Bool) (p : Place) → let q = (gap flow allowed p).0 in IsAhead 0 p q × IsAfter 0 p.mark q.mark
+GapOrder = (flow allowed : Bool) (p : Place)
+    → let q = (gap flow allowed p).0 in IsBeyond 0 p q × IsAfter 0 p.mark q.mark
 
 abbrev pub is_stream_end : yaml_lexeme_kind_t → Bool
 is_stream_end kind.STREAM_END = true

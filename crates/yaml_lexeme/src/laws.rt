@@ -17,7 +17,7 @@ ghost use Rattle.yaml_lexeme.specs.Grammar.{NameIsParts, NameIsRefused, TagIsPar
 ghost use Rattle.yaml_lexeme.specs.DirectiveGrammar.{DirectiveIsParts, DirectiveIsRefused};
 ghost use Rattle.yaml_lexeme.specs.EscapeGrammar.{EscapeIsParts, EscapeIsRefused};
 ghost use Rattle.yaml_lexeme.specs.HeaderGrammar.{HeaderIsParts, HeaderIsRefused, LineEndIsParts, LineEndIsRefused};
-ghost use Rattle.yaml_lexeme.specs.Order.{GapOrder, LexemeSpans, LexemeOrder, StreamEndOrder, OffenceIsAhead};
+ghost use Rattle.yaml_lexeme.specs.Order.{GapOrder, LexemeSpans, LexemeOrder, StreamEndOrder, OffenceIsBeyond};
 ghost use Rattle.yaml_lexeme.specs.Order.{LexemeFollows};
 
 use crate::kind::yaml_lexeme_kind_t;
@@ -56,7 +56,7 @@ pub fn stream_end_order()
 
 /// A problem is at a place of the text, where its lexeme would start or further on.
 pub fn offence_is_ahead()
-    ensures { OffenceIsAhead }
+    ensures { OffenceIsBeyond }
 {}
 
 /// A lexeme after a gap follows what was read up to the gap.

@@ -118,11 +118,11 @@ fn take_marker(cursor: &mut cursor_t, start: bool) -> yaml_lexeme_t
     ensures { lexeme (whole spec.says_of) cursor.old (found (sets.marker_kind start) (skip 3 cursor.old))
         ≡ found (lexeme_of result) cursor.new }
 {
-    let front = cursor.mark();
+    let at = cursor.mark();
     cursor.pass();
     cursor.pass();
     cursor.pass();
-    whole_of(says_of(marker_kind(start)), front, cursor.mark())
+    whole_of(says_of(marker_kind(start)), at, cursor.mark())
 }
 
 /// What an anchor or an alias says.

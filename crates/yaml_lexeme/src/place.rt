@@ -60,7 +60,7 @@ impl<'a> Model for cursor_t<'a> {
 }
 
 #[inline(always)]
-fn front(bytes: &[u8], n: usize) -> &[u8]
+fn first_bytes(bytes: &[u8], n: usize) -> &[u8]
     requires { n ≤ length bytes.now }
     ensures { result.now ≡ take n bytes.now }
 {
@@ -396,7 +396,7 @@ impl<'a> cursor_t<'a> {
         requires { (n : ℕ) × (self.now ≡ skip n start.now) }
         ensures { (n : ℕ) → self.now ≡ skip n start.now → result.now ≡ utf8 (take n start.now.rest) }
     {
-        front(start.bytes, start.bytes.len() - self.bytes.len())
+        first_bytes(start.bytes, start.bytes.len() - self.bytes.len())
     }
 
     /// What is left of the text at an earlier place, up to this place.
@@ -406,7 +406,7 @@ impl<'a> cursor_t<'a> {
         ensures { result.now ≡ take (length start.now - length (utf8 self.now.rest)) start.now }
     {
         let left = self.left();
-        front(start, start.len() - left.len())
+        first_bytes(start, start.len() - left.len())
     }
 
     /// What is left of the text.
@@ -447,7 +447,7 @@ impl<'a> cursor_t<'a> {
             self.skip_quiet(class, true);
         }
         let left = self.left();
-        front(start, start.len() - left.len())
+        first_bytes(start, start.len() - left.len())
     }
 
     /// Takes what is left of a line and the line feed that ends it, alone or after a carriage return. Returns how many
@@ -527,7 +527,7 @@ impl<'a> cursor_t<'a> {
         self.skip_quiet(class, false);
         self.skip_rest(class);
         let left = self.left();
-        front(start, start.len() - left.len())
+        first_bytes(start, start.len() - left.len())
     }
 
     /// Takes characters of a run of the class, up to a byte that ends it or needs a closer look. Returns their bytes.
@@ -560,7 +560,7 @@ impl<'a> cursor_t<'a> {
         let start = self.left();
         self.skip_far(class);
         let left = self.left();
-        front(start, start.len() - left.len())
+        first_bytes(start, start.len() - left.len())
     }
 
     /// Takes characters of a class of a line, up to a byte at which their run may end, except the blanks
@@ -571,7 +571,7 @@ impl<'a> cursor_t<'a> {
         ensures { Stands (class_test class) self.old self.new }
     {
         let (n, count) = quiet_len(class, self.bytes, true);
-        let kept = trimmed(front(self.bytes, n)).len();
+        let kept = trimmed(first_bytes(self.bytes, n)).len();
         self.mark = yaml_mark_t {
             index: self.mark.index + kept as u64,
             line: self.mark.line,

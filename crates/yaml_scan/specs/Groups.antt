@@ -29,11 +29,11 @@ handed_out e (OfLexeme x) = record { token_data = x.token_data; start_mark = x.s
 
 -- the mark of a block end: the lexeme's start; but if the stream ends, for columns above the end of the gap, that end
 abbrev pub end_at : Kind → yaml_mark_t → yaml_mark_t → ℕ → yaml_mark_t
-end_at k front start c = if is_stream_end k && nat_lt front.column c then front else start
+end_at k gap_end start c = if is_stream_end k && nat_lt gap_end.column c then gap_end else start
 
 -- the mark of the end with which x closes column c
 abbrev pub end_mark : Lexeme → ℕ → yaml_mark_t
-end_mark x c = end_at x.kind x.front x.start c
+end_mark x c = end_at x.kind x.gap_end x.start c
 
 -- one for each column that i closes
 unfoldable pub block_ends : Laid → List Token
@@ -59,7 +59,7 @@ group H i = block_ends i ++ (inserted H i ++ (OfLexeme i.lexeme ∷ []))
 -- the groups of some of H, the earliest ones, after the start of the stream
 unfoldable pub groups : List Laid → List Laid → List Token
 groups H [] = StreamStart ∷ []
-groups H (i ∷ early) = groups H early ++ group H i
+groups H (i ∷ older) = groups H older ++ group H i
 
 -- the groups of all lexemes
 unfoldable pub offline : List Laid → List Token

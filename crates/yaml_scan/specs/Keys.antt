@@ -15,8 +15,8 @@ abbrev pub enters : ℕ → Laid → Bool
 enters k i = is_flow_start i.lexeme.kind && nat_eq (i.depth + 1) k
 
 -- a candidate kind with no key allowed leaves the old candidate
-abbrev pub settles : Laid → Bool
-settles i = not (is_candidate i && not i.key_allowed)
+abbrev pub changes_candidate : Laid → Bool
+changes_candidate i = not (is_candidate i && not i.key_allowed)
 
 -- the lexemes after the last flow start that opened depth k, and all of them at depth 0
 abbrev pub since : ℕ → List Laid → List Laid
@@ -31,7 +31,7 @@ only_candidate (Some i) = if is_candidate i then Some i else None
 -- the candidate of depth k: of the lexemes read at it since it was opened, the last one that does not leave the old
 -- candidate, if it is of a candidate kind
 unfoldable pub candidate : List Laid → ℕ → Option Laid
-candidate H k = only_candidate (find (λ i. nat_eq i.depth k && settles i) (since k H))
+candidate H k = only_candidate (find (λ i. nat_eq i.depth k && changes_candidate i) (since k H))
 
 -- at a mark on its line, at most limit bytes from its start
 abbrev pub live : ℕ → Laid → yaml_mark_t → Bool

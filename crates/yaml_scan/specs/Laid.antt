@@ -10,7 +10,7 @@ pub record Lexeme : Type 0 where
   pub kind : Kind
   pub token_data : unnamed_yaml_token_t_data
   -- the mark of the end of the gap before it
-  pub front : yaml_mark_t
+  pub gap_end : yaml_mark_t
   pub start : yaml_mark_t
   pub end : yaml_mark_t
   -- how far was read for it

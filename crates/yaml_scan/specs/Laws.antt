@@ -9,7 +9,7 @@ use Rattle.yaml_scan.specs.Laid.{Laid, column, is_none}
 use Rattle.yaml_scan.specs.Depth.{depth}
 use Rattle.yaml_scan.specs.Allowed.{allowed, allows}
 use Rattle.yaml_scan.specs.Keys.{candidate, is_candidate, enters, completed_by}
-use Rattle.yaml_scan.specs.Levels.{is_above, is_opener, open_columns, kept_columns, level}
+use Rattle.yaml_scan.specs.Levels.{is_above, is_opener, open_columns, staying_columns, level}
 use Rattle.yaml_scan.specs.Falling.{IsFalling}
 use Rattle.yaml_scan.specs.Groups.{Token, group, offline}
 use Rattle.yaml_scan.specs.Settled.{waiting, before, up_to}
@@ -63,7 +63,7 @@ new_column i (Some c) = if nat_eq c.depth 0 && is_above (column c) c.level then 
 abbrev pub ColumnsGoOn : Type 0
 ColumnsGoOn = (limit : ℕ) (i : Laid) (H : List Laid) → IsHistory limit (i ∷ H)
     → open_columns (i ∷ H) ≡ new_column i (completed_by limit H i.lexeme.kind i.lexeme.start)
-    ++ kept_columns H i.lexeme.kind i.lexeme.start
+    ++ staying_columns H i.lexeme.kind i.lexeme.start
 
 abbrev pub ColumnsFall : Type 0
 ColumnsFall = (limit : ℕ) (H : List Laid) → IsHistory limit H → IsFalling (open_columns H)
@@ -75,7 +75,7 @@ first_of (c ∷ cs) = Some c
 
 abbrev pub LevelIsFirst : Type 0
 LevelIsFirst = (limit : ℕ) (H : List Laid) (k : Kind) (m : yaml_mark_t) → IsHistory limit H
-    → level H k m ≡ first_of (kept_columns H k m)
+    → level H k m ≡ first_of (staying_columns H k m)
 
 -- the level at a candidate of depth 0 is the level at which it is completed
 abbrev pub LevelStays : Type 0

@@ -48,8 +48,8 @@ unfoldable pub open_columns : List Laid → List ℕ
 open_columns H = map column (filter (λ i. opens H i && still_open H i) H)
 
 -- the open columns that a lexeme of kind k keeps, which starts at m after H
-unfoldable pub kept_columns : List Laid → Kind → yaml_mark_t → List ℕ
-kept_columns H k m = filter (keeps (depth H) k m) (open_columns H)
+unfoldable pub staying_columns : List Laid → Kind → yaml_mark_t → List ℕ
+staying_columns H k m = filter (keeps (depth H) k m) (open_columns H)
 
 -- the greater one of a column and a level
 abbrev pub greater_of : ℕ → Option ℕ → Option ℕ
@@ -63,7 +63,7 @@ greatest_level (c ∷ cs) = greater_of c (greatest_level cs)
 
 -- the greatest level at a lexeme of kind k that starts at m after H, or none
 unfoldable pub level : List Laid → Kind → yaml_mark_t → Option ℕ
-level H k m = greatest_level (kept_columns H k m)
+level H k m = greatest_level (staying_columns H k m)
 
 -- a candidate of depth 0 whose column is the greatest level is required
 abbrev pub is_required : Laid → Bool
@@ -75,7 +75,7 @@ laid limit H x = record {
   lexeme = x;
   number = length H;
   depth = depth H;
-  key_allowed = allowed H x.front;
+  key_allowed = allowed H x.gap_end;
   completed = option_map (λ i. i.number) (completed_by limit H x.kind x.start);
   level = level H x.kind x.start;
   closed = filter (λ c. not (keeps (depth H) x.kind x.start c)) (open_columns H);

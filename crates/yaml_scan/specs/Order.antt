@@ -14,9 +14,9 @@ pub record IsNotBefore (a b : yaml_mark_t) : Type 0 where
 
 -- x follows what was read so far: its marks are in order, and it takes a byte, and a column if it stays on its line
 pub record Follows (so_far : yaml_mark_t) (x : Lexeme) : Type 0 where
-  pub front : IsNotBefore so_far x.front
-  pub start : IsNotBefore x.front x.start
-  pub at_once : x.start.index ≡ x.front.index
+  pub gap_end : IsNotBefore so_far x.gap_end
+  pub start : IsNotBefore x.gap_end x.start
+  pub at_once : x.start.index ≡ x.gap_end.index
   pub end : IsNotBefore x.start x.end
   pub reach : IsNotBefore x.end x.reach
   pub takes_a_byte : is_stream_end x.kind ≡ false → x.start.index < x.end.index

@@ -53,8 +53,8 @@ abbrev pub IsThere : Parser → Type 0
 IsThere p = (p.session.peeked ≡ true) ⊎ (p.session.over ≡ true)
 
 -- the input is in UTF-8 and refused so early that its reader's fault comes instead of the first step
-abbrev pub IsRefusedEarly : Input → Type 0
-IsRefusedEarly input = (input.encoding ≡ YAML_UTF8_ENCODING) × (starts_near input.source.size input.refusal ≡ true)
+abbrev pub IsRefusedAtStart : Input → Type 0
+IsRefusedAtStart input = (input.encoding ≡ YAML_UTF8_ENCODING) × (starts_near input.source.size input.refusal ≡ true)
 
 -- a token that a peek shows, or a fault, as an answer
 abbrev pub peek_result : Result code_token_t yaml_fault_t → Answer

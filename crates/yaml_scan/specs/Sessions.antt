@@ -34,7 +34,7 @@ session_reach c s = reach (first_steps s.steps c.read)
 -- offline list or after it
 unfoldable pub queued : List Laid → ℕ → List Laid → ℕ
 queued H t [] = if nat_lt t (length (groups H [])) then 1 else 0
-queued H t (i ∷ early) = (if nat_lt t (length (groups H (i ∷ early))) then 1 else 0) + queued H t early
+queued H t (i ∷ older) = (if nat_lt t (length (groups H (i ∷ older))) then 1 else 0) + queued H t older
 
 -- how many of its steps have a token that was not taken
 abbrev pub session_queued : Course → Session → ℕ

@@ -30,7 +30,7 @@ pub record IsGivenAll (took : List yaml_token_t
   pub reads : ReadsAll limit setting input tokens fault
 
 -- a sink was given, in order, the tokens of an input before one that it refused
-pub record IsGivenFront (took : List yaml_token_t
+pub record IsGivenBeginning (took : List yaml_token_t
     → Type 0) (limit : ℕ) (setting : yaml_encoding_t) (input : List ℕ) : Type 0 where
   pub tokens : List yaml_token_t
   pub given : took tokens

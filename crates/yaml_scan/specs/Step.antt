@@ -115,7 +115,7 @@ abbrev pub lexeme_of : Kind → yaml_mark_t → Reading → Lexeme
 lexeme_of k g r = record {
   kind = k;
   token_data = r.token_data;
-  front = g;
+  gap_end = g;
   start = start_at k g;
   end = r.end;
   reach = r.reach;
@@ -129,13 +129,13 @@ abbrev pub no_kind : yaml_mark_t → ℕ → Offence
 no_kind m p = record { fault = scanner_fault no_token m (Some in_next_token) m; place = p }
 
 -- the place where the gap after H ends
-abbrev pub front_of : Source → List Laid → ℕ
-front_of S H = S.gap (nat_lt 0 (depth H)) (allowed_after H) (place_after H)
+abbrev pub gap_end_of : Source → List Laid → ℕ
+gap_end_of S H = S.gap (nat_lt 0 (depth H)) (allowed_after H) (place_after H)
 
 -- The first that fits of seven rows, after the gap that ends at p, of mark g.
 unfoldable pub step : Source → ℕ → List Laid → Outcome
 step S limit H =
-    let p = front_of S H in
+    let p = gap_end_of S H in
     let g = S.mark p in
     -- 1. the required candidate is stale
     unless (stale limit H g) g p (elim (S.kind (nat_lt 0 (depth H)) p) [

@@ -30,16 +30,16 @@ pub(crate) fn is_allowed_after(
     }
 }
 
-/// Whether a key is allowed at a lexeme after a gap that ends at `front`: `allowed` after the last lexeme, or because
+/// Whether a key is allowed at a lexeme after a gap that ends at `gap_end`: `allowed` after the last lexeme, or because
 /// outside flow a break is in the gap.
 #[inline(always)]
 pub(crate) fn is_key_allowed(
     allowed: bool,
     in_flow: bool,
     mark: yaml_mark_t,
-    front: yaml_mark_t,
+    gap_end: yaml_mark_t,
 ) -> bool
-    ensures { result ≡ (allowed || (not in_flow && nat_lt mark.line front.line)) }
+    ensures { result ≡ (allowed || (not in_flow && nat_lt mark.line gap_end.line)) }
 {
-    allowed || (!in_flow && mark.line < front.line)
+    allowed || (!in_flow && mark.line < gap_end.line)
 }

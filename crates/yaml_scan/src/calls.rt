@@ -5,7 +5,7 @@ ghost use Rattle.yaml_text.specs.Token.{token_of};
 ghost use Rattle.yaml_scan.specs.Decoded.{decoded_input};
 ghost use Rattle.yaml_scan.specs.Sessions.{session_queued};
 ghost use Rattle.yaml_scan.specs.Session.Call.{SCAN, PEEK, SKIP};
-ghost use Rattle.yaml_scan.specs.ParserCalls.{IsRefusedEarly, input_read, course_read, call_of};
+ghost use Rattle.yaml_scan.specs.ParserCalls.{IsRefusedAtStart, input_read, course_read, call_of};
 ghost use Rattle.yaml_scan.specs.CallWords.{SeenHaveLines};
 ghost use Rattle.yaml_scan.specs.ReadingOn.{ReadsOn, HaveOneFault};
 ghost use Rattle.yaml_scan.specs.Puts.{Puts, PutsSession, TakesNext, HasNext, AreAnsweredAlike};
@@ -132,7 +132,7 @@ pub fn yaml_run(
 ) -> Result<(), AllocError>
     ensures answers { OnOk result
         (PutsAnswers decoded_input parser.old (map call_of calls.now) out.old.items out.new.items parser.new) }
-    ensures early { OnOk result (IsRefusedEarly (input_read parser.old)
+    ensures at_start { OnOk result (IsRefusedAtStart (input_read parser.old)
         → PutsSession parser.old (map call_of calls.now) out.old.items out.new.items parser.new) }
     ensures refused { OnErr result ((parser.new ≡ parser.old) × (out.new.items ≡ out.old.items)) }
     ensures few { session_queued (course_read parser.new) parser.new.session ≤ parser.new.limit + 1 }

@@ -29,7 +29,7 @@ ghost use Rattle.yaml_scan.specs.inside.Slots.{nested_outer, nested_top, Held, i
 use crate::allowed::is_allowed_after;
 use crate::depth::{is_flow_start, slots_t};
 use crate::groups::{block_t, queue_t};
-use crate::kind::{is_candidate, is_colon, step_t};
+use crate::kind::{is_candidate_kind, is_colon, step_t};
 use crate::levels::{close_levels, closing, is_new_level, open_level};
 use crate::scanner::state_t;
 use crate::source::{decider_at, decider_t};
@@ -60,7 +60,7 @@ fn keeps_levels(levels: &[u64], in_flow: bool, kind: yaml_lexeme_kind_t, start: 
 pub(crate) fn is_undecided(state: &state_t, sparing: bool, step: step_t, reach: yaml_mark_t) -> bool
     ensures { (text : Text) → result ≡ true → IsUndecided (scanner_of text state.now) sparing step reach }
 {
-    is_candidate(step.kind)
+    is_candidate_kind(step.kind)
         && !is_flow_start(step.kind)
         && step.allowed
         && has_room_for_two(&state.layout.queue)
@@ -93,11 +93,11 @@ pub(crate) fn lay_candidate(levels: &mut Vec<u64>, step: step_t, key: bool) -> (
     requires falls { IsFalling (reverse levels.old.items) }
     requires room { step.in_flow ≡ false → vec_len levels.old < vec_capacity levels.old }
     requires last { is_stream_end step.kind ≡ false }
-    ensures levels { (kept : List ℕ) × (reverse kept
+    ensures levels { (left : List ℕ) × (reverse left
         ≡ filter (stays step.in_flow step.kind step.new.start) (reverse levels.old.items))
-        × (reverse levels.new.items ≡ (if key && is_new step.in_flow step.new.start.column (reverse kept)
-        then step.new.start.column ∷ [] else []) ++ reverse kept)
-        × (result.1 ≡ (if key && is_new step.in_flow step.new.start.column (reverse kept) then MAPPING else NONE)) }
+        × (reverse levels.new.items ≡ (if key && is_new step.in_flow step.new.start.column (reverse left)
+        then step.new.start.column ∷ [] else []) ++ reverse left)
+        × (result.1 ≡ (if key && is_new step.in_flow step.new.start.column (reverse left) then MAPPING else NONE)) }
     ensures ends { ends_at result.0 step.new.start ≡ map (λ c. BlockEnd step.new.start) (filter (λ c.
         not (stays step.in_flow step.kind step.new.start c)) (reverse levels.old.items)) }
     ensures few { result.0 ≤ length levels.old.items }
@@ -114,7 +114,7 @@ pub(crate) fn lay_candidate(levels: &mut Vec<u64>, step: step_t, key: bool) -> (
 pub(crate) fn is_awaited(state: &state_t) -> bool
     requires { state.now.layout.queue.done + 1 < 2 ^ 64 }
     ensures { result ≡ (nat_eq state.now.slots.awaited (state.now.layout.queue.done + 1)
-        && not (begins_with_end (pending state.now.layout.queue.early state.now.layout.queue.front
+        && not (begins_with_end (pending state.now.layout.queue.early state.now.layout.queue.early_mark
         state.now.layout.queue.groups.items))) }
 {
     state.slots.awaited == state.layout.queue.done + 1 && !state.layout.queue.has_ends()
@@ -126,7 +126,7 @@ fn is_awaited_with_room(state: &state_t) -> bool
     requires { state.now.layout.queue.done + 1 < 2 ^ 64 }
     ensures awaited { result ≡ true → state.now.slots.awaited ≡ state.now.layout.queue.done + 1 }
     ensures ends { result ≡ true → begins_with_end (pending state.now.layout.queue.early
-        state.now.layout.queue.front state.now.layout.queue.groups.items) ≡ false }
+        state.now.layout.queue.early_mark state.now.layout.queue.groups.items) ≡ false }
     ensures room { result ≡ true → length state.now.layout.queue.groups.items + 1
         < deque_capacity state.now.layout.queue.groups }
 {
@@ -172,7 +172,7 @@ pub(crate) fn waits(state: &state_t, step: step_t, reach: yaml_mark_t) -> bool
 {
     state.slots.awaited > 0
         && step.in_flow
-        && is_candidate(step.kind)
+        && is_candidate_kind(step.kind)
         && !is_flow_start(step.kind)
         && is_awaited_with_room(state)
         && has_known_slot(state, step, reach)
@@ -256,11 +256,11 @@ fn lay_levels(levels: &mut Vec<u64>, step: step_t, key: bool, waits: bool) -> (u
     requires room { step.in_flow ≡ false → vec_len levels.old < vec_capacity levels.old }
     requires last { waits ≡ false → is_stream_end step.kind ≡ false }
     ensures same { waits ≡ true → (levels.new ≡ levels.old) × (result.0 ≡ 0) × (result.1 ≡ NONE) }
-    ensures levels { waits ≡ false → (kept : List ℕ) × (reverse kept
+    ensures levels { waits ≡ false → (left : List ℕ) × (reverse left
         ≡ filter (stays step.in_flow step.kind step.new.start) (reverse levels.old.items))
-        × (reverse levels.new.items ≡ (if key && is_new step.in_flow step.new.start.column (reverse kept)
-        then step.new.start.column ∷ [] else []) ++ reverse kept)
-        × (result.1 ≡ (if key && is_new step.in_flow step.new.start.column (reverse kept) then MAPPING else NONE)) }
+        × (reverse levels.new.items ≡ (if key && is_new step.in_flow step.new.start.column (reverse left)
+        then step.new.start.column ∷ [] else []) ++ reverse left)
+        × (result.1 ≡ (if key && is_new step.in_flow step.new.start.column (reverse left) then MAPPING else NONE)) }
     ensures ends { waits ≡ false → ends_at result.0 step.new.start ≡ map (λ c. BlockEnd step.new.start) (filter (λ c.
         not (stays step.in_flow step.kind step.new.start c)) (reverse levels.old.items)) }
     ensures few { result.0 ≤ length levels.old.items }

@@ -19,13 +19,13 @@ ghost use Rattle.yaml_scan.specs.inside.Handed.{Gives, group_tokens, GivesNext};
 ghost use Rattle.yaml_scan.specs.inside.Sent.{Drains, DrainsOrStays, HasSentOrSettled, IsPutOrReturned, IsReadyGroup};
 ghost use Rattle.yaml_scan.specs.inside.Sent.{SendsOrSettles};
 ghost use Rattle.yaml_scan.specs.KeyLimits.{most_key_limit, key_limit};
-ghost use Rattle.yaml_scan.specs.Sink.{IsGivenAll, IsGivenFront};
+ghost use Rattle.yaml_scan.specs.Sink.{IsGivenAll, IsGivenBeginning};
 ghost use Rattle.yaml_scan.specs.Settled.{before};
 ghost use Rattle.yaml_scan.specs.AnswerLaws.{StandInOrder, AreFollowed};
 ghost use Rattle.yaml_scan.specs.Inputs.{answers_to};
 ghost use Rattle.yaml_scan.specs.Puts.{AreReadAlike};
 ghost use Rattle.yaml_scan.specs.CallMarks.{AllIsCounted};
-ghost use Rattle.yaml_scan.specs.ParserCalls.{IsRefusedEarly};
+ghost use Rattle.yaml_scan.specs.ParserCalls.{IsRefusedAtStart};
 
 use crate::groups::{group_t, lead_t, lead_token};
 use crate::keys::KEY_LIMIT;
@@ -394,7 +394,7 @@ pub fn yaml_scan_to<S: yaml_token_sink_t>(
     ensures given { IfOk result (λ fault.
         IsGivenAll (λ tokens. S.took sink.old tokens sink.new) limit setting input.now (option_map fault_of fault)) }
     ensures cut { OnErr result (
-        IsGivenFront (λ tokens. S.took sink.old tokens sink.new) limit setting input.now) }
+        IsGivenBeginning (λ tokens. S.took sink.old tokens sink.new) limit setting input.now) }
     ensures refused { OnErr result S.may_refuse }
 {
     let mut state = new_state(alloc, limit as u64);
@@ -463,7 +463,7 @@ pub fn yaml_scan_all(
 ) -> Result<(Vec<yaml_token_t>, Option<yaml_fault_t>), AllocError>
     ensures answers { IfOk result (λ r.
         ReadsAll key_limit setting input.now (map token_of r.0.items) (option_map fault_of r.1)) }
-    ensures early { IfOk result (λ r. IsRefusedEarly (decoded_input setting input.now)
+    ensures at_start { IfOk result (λ r. IsRefusedAtStart (decoded_input setting input.now)
         → AllOf (answers_to key_limit setting input.now) (map token_of r.0.items) (option_map fault_of r.1)) }
     ensures order { IfOk result (λ r. StandInOrder 0 (map token_of r.0.items)) }
     ensures ends { IfOk result (λ r. EndNoMore (map token_of r.0.items)) }
@@ -496,7 +496,7 @@ pub fn yaml_scan_all_limit(
     requires most { limit ≤ most_key_limit }
     ensures answers { IfOk result (λ r.
         ReadsAll limit setting input.now (map token_of r.0.items) (option_map fault_of r.1)) }
-    ensures early { IfOk result (λ r. IsRefusedEarly (decoded_input setting input.now)
+    ensures at_start { IfOk result (λ r. IsRefusedAtStart (decoded_input setting input.now)
         → AllOf (answers_to limit setting input.now) (map token_of r.0.items) (option_map fault_of r.1)) }
     ensures order { IfOk result (λ r. StandInOrder 0 (map token_of r.0.items)) }
     ensures ends { IfOk result (λ r. EndNoMore (map token_of r.0.items)) }

@@ -148,7 +148,7 @@ pub(crate) struct queue_t {
     /// How many block ends come before the last group: only the stream end has them.
     pub early: usize,
     /// The mark of these block ends, if there are any.
-    pub front: yaml_mark_t,
+    pub early_mark: yaml_mark_t,
 }
 
 impl queue_t {
@@ -161,8 +161,8 @@ impl queue_t {
     ) -> Result<(), AllocError>
         requires empty { self.old.groups.items ≡ [] }
         requires none { self.old.early ≡ 0 }
-        ensures queue { OnOk result (IsQueue encoding self.new.early self.new.front self.new.groups.items (StreamStart
-            ∷ [])) }
+        ensures queue { OnOk result
+            (IsQueue encoding self.new.early self.new.early_mark self.new.groups.items (StreamStart ∷ [])) }
         ensures long { OnOk result (length self.new.groups.items ≡ 1) }
         ensures early { self.new.early ≡ self.old.early }
         ensures done { self.new.done ≡ self.old.done }
@@ -233,20 +233,20 @@ impl queue_t {
 
     /// Keeps how many levels end at the end of the gap, and where that is. No group before it has early block ends.
     #[inline(always)]
-    pub(crate) fn keep_early(&mut self, early: usize, front: yaml_mark_t)
+    pub(crate) fn keep_early(&mut self, early: usize, early_mark: yaml_mark_t)
         requires none { self.old.early ≡ 0 }
         ensures groups { self.new.groups ≡ self.old.groups }
         ensures done { self.new.done ≡ self.old.done }
         ensures early { self.new.early ≡ early }
-        ensures front { 0 < early → self.new.front ≡ front }
+        ensures early_mark { 0 < early → self.new.early_mark ≡ early_mark }
     {
         if early > 0 {
             self.early = early;
-            self.front = front;
+            self.early_mark = early_mark;
         }
     }
 
-    /// Whether the block ends of the front are next. Before the stream end there are none.
+    /// Whether the early block ends are next. Before the stream end there are none.
     #[inline(always)]
     pub(crate) fn is_early(&self) -> bool
         ensures { result ≡ (nat_lt 0 self.now.early && nat_eq (length self.now.groups.items) 1) }
@@ -257,7 +257,7 @@ impl queue_t {
     /// Whether block ends are next.
     #[inline(always)]
     pub(crate) fn has_ends(&self) -> bool
-        ensures { result ≡ begins_with_end (pending self.now.early self.now.front self.now.groups.items) }
+        ensures { result ≡ begins_with_end (pending self.now.early self.now.early_mark self.now.groups.items) }
     {
         if self.is_early() {
             return true;
@@ -282,8 +282,8 @@ impl queue_t {
     /// What is handed out next, before the token of the head.
     #[inline(always)]
     fn next_lead(&self) -> lead_t
-        ensures { lead_tokens result (mark_next self.now.early self.now.front self.now.groups.items)
-            ≡ take 1 (pending self.now.early self.now.front self.now.groups.items) }
+        ensures { lead_tokens result (mark_next self.now.early self.now.early_mark self.now.groups.items)
+            ≡ take 1 (pending self.now.early self.now.early_mark self.now.groups.items) }
     {
         if self.is_early() {
             return lead_t::END;
@@ -297,7 +297,7 @@ impl queue_t {
     /// Whether a token is handed out before that of the head.
     #[inline(always)]
     pub(crate) fn has_lead(&self) -> bool
-        ensures { result ≡ nat_lt 0 (length (pending self.now.early self.now.front self.now.groups.items)) }
+        ensures { result ≡ nat_lt 0 (length (pending self.now.early self.now.early_mark self.now.groups.items)) }
     {
         !matches!(self.next_lead(), lead_t::NOTHING)
     }
@@ -305,13 +305,13 @@ impl queue_t {
     /// The mark of what is handed out before the token of the head.
     #[inline(always)]
     fn lead_mark(&self) -> yaml_mark_t
-        ensures { result ≡ mark_next self.now.early self.now.front self.now.groups.items }
+        ensures { result ≡ mark_next self.now.early self.now.early_mark self.now.groups.items }
     {
         if self.is_early() {
-            return self.front;
+            return self.early_mark;
         }
         match self.groups.front() {
-            None => self.front,
+            None => self.early_mark,
             Some(head) => head.token.start_mark,
         }
     }
@@ -334,16 +334,16 @@ impl queue_t {
         }
     }
 
-    /// Takes the next of the block ends of the front. There is one.
+    /// Takes the next of the early block ends. There is one.
     pub(crate) fn take_early(&mut self) -> yaml_token_t
         requires { (nat_lt 0 self.old.early && nat_eq (length self.old.groups.items) 1) ≡ true }
         ensures { TakesNext self.old self.new (token_of result) }
     {
         self.early -= 1;
-        token_at(unnamed_yaml_token_t_data::BLOCK_END, self.front)
+        token_at(unnamed_yaml_token_t_data::BLOCK_END, self.early_mark)
     }
 
-    /// Takes what is handed out before the token of the head, and returns it with its mark. The block ends of the front
+    /// Takes what is handed out before the token of the head, and returns it with its mark. The early block ends
     /// are not next.
     #[inline(always)]
     pub(crate) fn take_lead(&mut self) -> (lead_t, yaml_mark_t)
@@ -361,7 +361,7 @@ impl queue_t {
     #[inline(always)]
     pub(crate) fn take_bare(&mut self) -> yaml_token_t
         requires some { 0 < length self.old.groups.items }
-        requires none { pending self.old.early self.old.front self.old.groups.items ≡ [] }
+        requires none { pending self.old.early self.old.early_mark self.old.groups.items ≡ [] }
         requires few { self.old.done + 1 < 2 ^ 64 }
         ensures { TakesNext self.old self.new (token_of result) }
     {

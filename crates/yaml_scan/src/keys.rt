@@ -5,13 +5,13 @@ ghost use Rattle.std.specs.Prelude.{length, nat_lt, true};
 ghost use Rattle.yaml_scan.specs.Kind.{is_flow_start};
 ghost use Rattle.std.specs.Option.{is_some};
 ghost use Rattle.std.specs.Vec.{vec_capacity};
-ghost use Rattle.yaml_scan.specs.inside.Slots.{is_live, still_held, lost_held, needed, slot_after, root_of, step_of};
+ghost use Rattle.yaml_scan.specs.inside.Slots.{is_live, still_held, lost_held, needed, slot_after, root_of, held_step};
 ghost use Rattle.yaml_scan.specs.inside.Slots.{completed_held, nested_outer, nested_top, empty_slots, lowest};
 ghost use Rattle.yaml_scan.specs.inside.Slots.{AreEmptyBelow};
 ghost use Rattle.yaml_scan.specs.inside.Slots.{AreNested};
 
 use crate::depth::{candidate_t, is_flow_start, nests, slots_t};
-use crate::kind::{is_candidate, is_colon, step_t};
+use crate::kind::{is_candidate_kind, is_colon, step_t};
 use yaml_lexeme::yaml_lexeme_kind_t;
 use yaml_text::yaml_mark_t;
 
@@ -30,7 +30,7 @@ impl candidate_t {
 
 /// A candidate, unless it is stale at a mark.
 #[inline(always)]
-pub(crate) fn kept(slot: Option<candidate_t>, limit: u64, mark: yaml_mark_t) -> Option<candidate_t>
+pub(crate) fn still_held(slot: Option<candidate_t>, limit: u64, mark: yaml_mark_t) -> Option<candidate_t>
     ensures { result ≡ still_held limit mark slot }
 {
     match slot {
@@ -121,7 +121,7 @@ fn give_up_stale(
 {
     let mut empty = empty;
     while empty < slots.len() {
-        if kept(slots[empty], limit, mark).is_some() {
+        if still_held(slots[empty], limit, mark).is_some() {
             return empty;
         }
         slots[empty] = None;
@@ -171,7 +171,7 @@ pub(crate) fn root_at(
 
 /// Changes the slot of a depth after a lexeme was read at it.
 #[inline(always)]
-pub(crate) fn settle(
+pub(crate) fn change_slot(
     slot: &mut Option<candidate_t>,
     kind: yaml_lexeme_kind_t,
     allowed: bool,
@@ -179,7 +179,7 @@ pub(crate) fn settle(
 )
     ensures { slot.new ≡ slot_after kind allowed new slot.old }
 {
-    if !is_candidate(kind) {
+    if !is_candidate_kind(kind) {
         *slot = None;
     } else if allowed {
         *slot = Some(new);
@@ -197,7 +197,7 @@ pub(crate) fn completed_by(
     ensures { result ≡ completed_held kind limit start top }
 {
     if is_colon(kind) {
-        kept(top, limit, start)
+        still_held(top, limit, start)
     } else {
         None
     }
@@ -242,8 +242,8 @@ fn lowest(
 
 /// The number of a candidate's step, or 0.
 #[inline(always)]
-fn step_of(held: Option<candidate_t>) -> u64
-    ensures { result ≡ step_of held }
+fn held_step(held: Option<candidate_t>) -> u64
+    ensures { result ≡ held_step held }
 {
     match held {
         None => 0,
@@ -267,11 +267,11 @@ impl slots_t {
             ≡ nested_top step.kind (map (still_held limit mark) self.old.outer.items)
             (still_held limit mark self.old.top) }
         ensures empty { self.new.not_simple_keys ≡ empty_slots self.new.outer.items }
-        ensures awaited { self.new.awaited ≡ step_of (lowest (self.new.outer.items ++ self.new.top ∷ [])) }
+        ensures awaited { self.new.awaited ≡ held_step (lowest (self.new.outer.items ++ self.new.top ∷ [])) }
     {
         give_up(&mut self.top, limit, mark);
         if !step.in_flow && !is_flow_start(step.kind) {
-            self.awaited = step_of(self.top);
+            self.awaited = held_step(self.top);
             return;
         }
         let below = give_up_stale(&mut self.outer, self.not_simple_keys, limit, mark);
@@ -281,7 +281,7 @@ impl slots_t {
         } else {
             below
         };
-        self.awaited = step_of(lowest(&self.outer, empty, self.top));
+        self.awaited = held_step(lowest(&self.outer, empty, self.top));
         self.not_simple_keys = empty;
     }
 }

@@ -9,7 +9,7 @@ use crate::depth::candidate_t;
 use yaml_lexeme::{yaml_context_t, yaml_lexeme_kind_t};
 use yaml_text::yaml_mark_t;
 
-pub(crate) fn is_candidate(kind: yaml_lexeme_kind_t) -> bool
+pub(crate) fn is_candidate_kind(kind: yaml_lexeme_kind_t) -> bool
     ensures { result ≡ is_candidate_kind kind }
 {
     matches!(
@@ -50,7 +50,7 @@ fn is_closer(kind: yaml_lexeme_kind_t) -> bool
 }
 
 /// Whether it opens a block collection if it completes no key.
-pub(crate) fn is_opener(kind: yaml_lexeme_kind_t) -> bool
+pub(crate) fn is_opener_kind(kind: yaml_lexeme_kind_t) -> bool
     ensures { result ≡ opens_level kind true }
 {
     matches!(
@@ -88,30 +88,30 @@ pub(crate) fn stays_open(
     in_flow || (!is_closer(kind) && column <= start.column)
 }
 
-fn end_mark(front: yaml_mark_t) -> yaml_mark_t
-    requires { front.line + 1 < 2 ^ 64 }
-    ensures { result ≡ end_of front }
+fn end_mark(gap_end: yaml_mark_t) -> yaml_mark_t
+    requires { gap_end.line + 1 < 2 ^ 64 }
+    ensures { result ≡ end_of gap_end }
 {
-    if front.column == 0 {
-        front
+    if gap_end.column == 0 {
+        gap_end
     } else {
         yaml_mark_t {
-            index: front.index,
-            line: front.line + 1,
+            index: gap_end.index,
+            line: gap_end.line + 1,
             column: 0,
         }
     }
 }
 
 /// Where a lexeme starts after a gap.
-pub(crate) fn start_after(kind: yaml_lexeme_kind_t, front: yaml_mark_t) -> yaml_mark_t
-    requires { front.line + 1 < 2 ^ 64 }
-    ensures { result ≡ start_at kind front }
+pub(crate) fn start_after(kind: yaml_lexeme_kind_t, gap_end: yaml_mark_t) -> yaml_mark_t
+    requires { gap_end.line + 1 < 2 ^ 64 }
+    ensures { result ≡ start_at kind gap_end }
 {
     if is_last(kind) {
-        end_mark(front)
+        end_mark(gap_end)
     } else {
-        front
+        gap_end
     }
 }
 

@@ -18,7 +18,7 @@ ghost use Rattle.yaml_scan.specs.inside.Scanner.{scanner_of, Scanner};
 ghost use Rattle.yaml_scan.specs.inside.Scanning.{CanPut, HasRoom, groups_in, met_in, CanLayAll, CanRead, IsReadIn};
 ghost use Rattle.yaml_scan.specs.inside.Scanning.{IsStep, Refuses};
 ghost use Rattle.yaml_scan.specs.inside.Slots.{AreNested, empty_slots, lowest, nested_outer, nested_top, slot_after};
-ghost use Rattle.yaml_scan.specs.inside.Slots.{step_of, still_held};
+ghost use Rattle.yaml_scan.specs.inside.Slots.{held_step, still_held};
 ghost use Rattle.yaml_scan.specs.Sink.{said_len};
 ghost use Rattle.yaml_scan.specs.declared.groups.group_t.{group_t};
 ghost use Rattle.yaml_scan.specs.inside.TextReads.{IsRead};
@@ -27,7 +27,7 @@ use crate::allowed::is_allowed_after;
 use crate::depth::slots_t;
 use crate::follower::{follower_of, lay_followed};
 use crate::groups::{block_t, group_t};
-use crate::keys::{completed_by, is_lost, settle};
+use crate::keys::{completed_by, is_lost, change_slot};
 use crate::kind::{is_last, step_t};
 use crate::levels::close_levels;
 use crate::scanner::state_t;
@@ -70,9 +70,9 @@ fn keep_candidates(slots: &mut slots_t, step: step_t, limit: u64, mark: yaml_mar
         ≡ nested_top step.kind (map (still_held limit mark) slots.old.outer.items)
         (still_held limit mark (slot_after step.kind step.allowed step.new slots.old.top)) }
     ensures empty { slots.new.not_simple_keys ≡ empty_slots slots.new.outer.items }
-    ensures awaited { slots.new.awaited ≡ step_of (lowest (slots.new.outer.items ++ slots.new.top ∷ [])) }
+    ensures awaited { slots.new.awaited ≡ held_step (lowest (slots.new.outer.items ++ slots.new.top ∷ [])) }
 {
-    settle(&mut slots.top, step.kind, step.allowed, step.new);
+    change_slot(&mut slots.top, step.kind, step.allowed, step.new);
     slots.move_on(step, limit, mark);
 }
 
@@ -101,13 +101,13 @@ pub(crate) fn lay_lexeme(
     ensures room { length state.new.layout.queue.groups.items < deque_capacity state.new.layout.queue.groups }
 {
     let kind = step.kind;
-    let front = state.front;
+    let gap_end = state.gap_end;
     let start = step.new.start;
-    let closed = close_levels(&mut state.layout.levels, step, front);
+    let closed = close_levels(&mut state.layout.levels, step, gap_end);
     let completed = completed_by(kind, state.slots.top, state.limit, start);
     keep_candidates(&mut state.slots, step, state.limit, reach);
     let opens = state.layout.put_key(step, completed);
-    state.layout.queue.keep_early(closed.early, front);
+    state.layout.queue.keep_early(closed.early, gap_end);
     state.allowed = is_allowed_after(kind, step.in_flow, completed.is_none(), passed_break);
     state.reach = reach;
     (closed.ends, opens)
@@ -245,7 +245,7 @@ fn check_reach(
 ) -> Result<(), stop_t>
     ghost before: { List Laid }
     requires { CanRead before (scanner_of text.now state.old) step
-        × ((p : ℕ) → IsMarkOf text.now.chars state.old.front p
+        × ((p : ℕ) → IsMarkOf text.now.chars state.old.gap_end p
         → IsRead text.now.chars step.kind step.context.depth step.context.level p (lexeme_of lexeme.now)) }
     ensures { MatchResult result
         (λ _. (state.new ≡ state.old) × CanLayAll before (scanner_of text.now state.old) step (lexeme_of lexeme.now))
@@ -272,7 +272,7 @@ pub(crate) fn end_character<const DIRECT: bool, S: yaml_token_sink_t>(
 ) -> Result<(), stop_t>
     ghost before: { List Laid }
     requires { CanRead before (scanner_of text.now state.old) step
-        × ((p : ℕ) → IsMarkOf text.now.chars state.old.front p
+        × ((p : ℕ) → IsMarkOf text.now.chars state.old.gap_end p
         → IsRead text.now.chars step.kind step.context.depth step.context.level p (lexeme_of lexeme)) }
     ensures steps { StepsTo before (scanner_of text.now state.old) (scanner_of text.now state.new) DIRECT
         (λ tokens. S.took sink.old tokens sink.new)
@@ -423,7 +423,7 @@ pub(crate) fn end_queued(
 ) -> Result<(), stop_t>
     ghost before: { List Laid }
     requires { CanRead before (scanner_of text.now state.old) step
-        × ((p : ℕ) → IsMarkOf text.now.chars state.old.front p
+        × ((p : ℕ) → IsMarkOf text.now.chars state.old.gap_end p
         → IsRead text.now.chars step.kind step.context.depth step.context.level p (lexeme_of lexeme)) }
     ensures { IsStep before (scanner_of text.now state.old) (scanner_of text.now state.new) result }
 {

@@ -16,16 +16,16 @@ ghost use Rattle.yaml_scan.specs.inside.Slots.{is_level};
 
 use crate::depth::candidate_t;
 use crate::groups::{block_t, queue_t};
-use crate::kind::{is_last, is_opener, stays_open, step_t};
+use crate::kind::{is_last, is_opener_kind, stays_open, step_t};
 use yaml_lexeme::yaml_lexeme_kind_t;
 use yaml_text::yaml_mark_t;
 
 /// Whether a block collection ends at the end of the gap: at the end of the stream, if its column is above that.
 #[inline(always)]
-fn is_early(kind: yaml_lexeme_kind_t, front: yaml_mark_t, column: u64) -> bool
-    ensures { result ≡ (is_stream_end kind && nat_lt front.column column) }
+fn ends_early(kind: yaml_lexeme_kind_t, gap_end: yaml_mark_t, column: u64) -> bool
+    ensures { result ≡ (is_stream_end kind && nat_lt gap_end.column column) }
 {
-    is_last(kind) && front.column < column
+    is_last(kind) && gap_end.column < column
 }
 
 /// The greatest level, if a lexeme closes it.
@@ -58,14 +58,14 @@ pub(crate) struct closed_t {
     pub ends: usize,
 }
 
-/// Closes the levels that the lexeme of a step does not keep, greatest first. The gap before it ends at `front`.
+/// Closes the levels that the lexeme of a step does not keep, greatest first. The gap before it ends at `gap_end`.
 #[inline(always)]
-pub(crate) fn close_levels(levels: &mut Vec<u64>, step: step_t, front: yaml_mark_t) -> closed_t
+pub(crate) fn close_levels(levels: &mut Vec<u64>, step: step_t, gap_end: yaml_mark_t) -> closed_t
     requires { IsFalling (reverse levels.old.items) }
     ensures levels { reverse levels.new.items
         ≡ filter (stays step.in_flow step.kind step.new.start) (reverse levels.old.items) }
-    ensures ends { ends_at result.early front ++ ends_at result.ends step.new.start
-        ≡ map (λ c. BlockEnd (end_at step.kind front step.new.start c)) (filter (λ c.
+    ensures ends { ends_at result.early gap_end ++ ends_at result.ends step.new.start
+        ≡ map (λ c. BlockEnd (end_at step.kind gap_end step.new.start c)) (filter (λ c.
         not (stays step.in_flow step.kind step.new.start c)) (reverse levels.old.items)) }
     ensures none { is_stream_end step.kind ≡ false → result.early ≡ 0 }
     ensures len { vec_len levels.new ≤ vec_len levels.old }
@@ -75,7 +75,7 @@ pub(crate) fn close_levels(levels: &mut Vec<u64>, step: step_t, front: yaml_mark
     let mut ends = 0;
     while let Some(last) = closing(levels, step.in_flow, step.kind, step.new.start) {
         levels.pop();
-        if is_early(step.kind, front, last) {
+        if ends_early(step.kind, gap_end, last) {
             early += 1;
         } else {
             ends += 1;
@@ -95,11 +95,11 @@ pub(crate) fn level_at(
     requires { IsFalling (reverse levels.now) }
     ensures { result ≡ greatest_level (filter (stays in_flow kind start) (reverse levels.now)) }
 {
-    let mut kept = levels;
-    'closed: while closing(kept, in_flow, kind, start).is_some() {
-        kept = &kept[..kept.len() - 1];
+    let mut left = levels;
+    'closed: while closing(left, in_flow, kind, start).is_some() {
+        left = &left[..left.len() - 1];
     }
-    top_level(kept)
+    top_level(left)
 }
 
 /// The greatest of the open levels.
@@ -143,7 +143,7 @@ fn opens_at(levels: &[u64], in_flow: bool, kind: yaml_lexeme_kind_t, column: u64
     requires { IsFalling (reverse levels.now) }
     ensures { result ≡ (is_new in_flow column (reverse levels.now) && opens_level kind true) }
 {
-    is_new_level(levels, in_flow, column) && is_opener(kind)
+    is_new_level(levels, in_flow, column) && is_opener_kind(kind)
 }
 
 /// Opens a level, for which there is room, or none.
@@ -173,7 +173,7 @@ pub(crate) fn block_start(opens: bool, kind: yaml_lexeme_kind_t) -> block_t
 
 /// Opens a level at the lexeme of a step, which completes nothing, if it does. Outside flow there is room for one.
 #[inline(always)]
-fn begin(levels: &mut Vec<u64>, step: step_t) -> block_t
+fn open_block(levels: &mut Vec<u64>, step: step_t) -> block_t
     requires falls { IsFalling (reverse levels.old.items) }
     requires room { step.in_flow ≡ false → vec_len levels.old < vec_capacity levels.old }
     ensures levels { reverse levels.new.items
@@ -234,7 +234,7 @@ impl layout_t {
                 self.complete(step.in_flow, held);
                 block_t::NONE
             }
-            None => begin(&mut self.levels, step),
+            None => open_block(&mut self.levels, step),
         }
     }
 }

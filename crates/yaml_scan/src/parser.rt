@@ -17,7 +17,7 @@ ghost use Rattle.yaml_scan.specs.inside.Ready.{IsStarted, IsShown};
 ghost use Rattle.yaml_scan.specs.Headline.{Calls};
 ghost use Rattle.yaml_scan.specs.Parser.{Parser};
 ghost use Rattle.yaml_scan.specs.ParserCalls.{input_read, course_read, answered, after_call, scan_result, token_shown};
-ghost use Rattle.yaml_scan.specs.ParserCalls.{IsThere, IsRefusedEarly, peek_result, copied};
+ghost use Rattle.yaml_scan.specs.ParserCalls.{IsThere, IsRefusedAtStart, peek_result, copied};
 ghost use Rattle.yaml_scan.specs.inside.Shown.{Shows};
 ghost use Rattle.yaml_scan.specs.CallMarks.{IsCountedIn, ReachesTo};
 ghost use Rattle.yaml_scan.specs.Session.Call.{SKIP, SCAN, PEEK};
@@ -106,11 +106,11 @@ pub(crate) fn new_state(alloc: Global, limit: u64) -> state_t
                 groups: VecDeque::new(alloc),
                 done: 0,
                 early: 0,
-                front: zero,
+                early_mark: zero,
             },
         },
         reach: zero,
-        front: zero,
+        gap_end: zero,
         there: zero,
         taken: 0,
         made: 0,
@@ -344,7 +344,7 @@ pub fn yaml_parser_scan(parser: &mut yaml_parser_t) -> Result<yaml_token_t, yaml
     ensures answers { Calls decoded_input SCAN parser.old (scan_result result) parser.new }
     ensures bare { IsThere parser.old → (scan_result result ≡ answered parser.old SCAN)
         × (parser.new ≡ after_call parser.old SCAN) }
-    ensures early { IsRefusedEarly (input_read parser.old)
+    ensures at_start { IsRefusedAtStart (input_read parser.old)
         → (scan_result result ≡ answered parser.old SCAN) × (parser.new ≡ after_call parser.old SCAN) }
     ensures local { IsAnsweredAlike parser.old SCAN (scan_result result) }
     ensures marks { IsCountedIn parser.old (scan_result result) }
@@ -392,7 +392,8 @@ pub fn yaml_parser_peek<'s>(
         (λ q. Calls decoded_input PEEK parser.old (peek_result (copied result)) q)) }
     ensures shows { (q : Parser) × Calls decoded_input PEEK parser.old (peek_result (copied result)) q }
     ensures bare { IsThere parser.old → peek_result (copied result) ≡ answered parser.old PEEK }
-    ensures early { IsRefusedEarly (input_read parser.old) → peek_result (copied result) ≡ answered parser.old PEEK }
+    ensures at_start { IsRefusedAtStart (input_read parser.old)
+        → peek_result (copied result) ≡ answered parser.old PEEK }
     ensures local { IsAnsweredAlike parser.old PEEK (peek_result (copied result)) }
     ensures marks { IsCountedIn parser.old (peek_result (copied result)) }
 {

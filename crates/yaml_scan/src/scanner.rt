@@ -10,8 +10,8 @@ ghost use Rattle.yaml_scan.specs.inside.Slots.{is_level, root_of, slot_after};
 
 use crate::depth::{candidate_t, slots_t};
 use crate::groups::queue_t;
-use crate::keys::{completed_by, needed_at, root_at, settle};
-use crate::kind::{is_candidate, is_colon, problem, start_after, step_t};
+use crate::keys::{completed_by, needed_at, root_at, change_slot};
+use crate::kind::{is_candidate_kind, is_colon, problem, start_after, step_t};
 use crate::levels::{is_level, layout_t, level_at};
 use std::alloc::Global;
 use std::collections::VecDeque;
@@ -37,7 +37,7 @@ pub(crate) struct state_t {
     /// How far the last good step was read.
     pub reach: yaml_mark_t,
     /// The end of the gap after that, in a step.
-    pub front: yaml_mark_t,
+    pub gap_end: yaml_mark_t,
     /// Where a lexeme stops a step.
     pub there: yaml_mark_t,
     /// How many tokens were taken.
@@ -63,7 +63,7 @@ impl state_t {
             allowed: self.allowed,
             layout: replace(&mut self.layout, no_layout(alloc, reach)),
             reach,
-            front: self.front,
+            gap_end: self.gap_end,
             there: self.there,
             taken: self.taken,
             made: self.made,
@@ -83,7 +83,7 @@ impl state_t {
         if in_flow || allowed {
             return None;
         }
-        let completed = completed_by(kind, self.slots.top, self.limit, self.front);
+        let completed = completed_by(kind, self.slots.top, self.limit, self.gap_end);
         problem(kind, completed.is_none())
     }
 
@@ -97,8 +97,8 @@ impl state_t {
     ) -> Option<candidate_t>
         ensures { (text : Text) → result ≡ cleared_in (scanner_of text self.now) in_flow kind allowed }
     {
-        if !is_colon(kind) && (!is_candidate(kind) || allowed) && !in_flow {
-            needed_at(self.slots.top, self.limit, self.front)
+        if !is_colon(kind) && (!is_candidate_kind(kind) || allowed) && !in_flow {
+            needed_at(self.slots.top, self.limit, self.gap_end)
         } else {
             None
         }
@@ -109,7 +109,7 @@ impl state_t {
     pub(crate) fn step_of(&self, in_flow: bool, kind: yaml_lexeme_kind_t, allowed: bool) -> step_t
         requires flow { in_flow ≡ nat_lt 0 (vec_len self.now.slots.outer) }
         requires falls { IsFalling (reverse self.now.layout.levels.items) }
-        requires line { self.now.front.line + 1 < 2 ^ 64 }
+        requires line { self.now.gap_end.line + 1 < 2 ^ 64 }
         requires made { self.now.made + 1 < 2 ^ 64 }
         ensures kind { result.kind ≡ kind }
         ensures flow { result.in_flow ≡ in_flow }
@@ -118,7 +118,7 @@ impl state_t {
             (met_in (scanner_of text self.now) result) result.in_flow result.context.level result.new }
         ensures depth { result.context.depth ≡ vec_len self.now.slots.outer }
     {
-        let start = start_after(kind, self.front);
+        let start = start_after(kind, self.gap_end);
         let level = level_at(&self.layout.levels, in_flow, kind, start);
         step_t {
             kind,
@@ -140,7 +140,7 @@ impl state_t {
             (slot_after step.kind step.allowed step.new self.now.slots.top) }
     {
         let mut top = self.slots.top;
-        settle(&mut top, step.kind, step.allowed, step.new);
+        change_slot(&mut top, step.kind, step.allowed, step.new);
         root_at(&self.slots.outer, top, step.in_flow)
     }
 }
@@ -165,7 +165,7 @@ fn no_layout(alloc: Global, mark: yaml_mark_t) -> layout_t {
             groups: VecDeque::new(alloc),
             done: 0,
             early: 0,
-            front: mark,
+            early_mark: mark,
         },
     }
 }

@@ -30,14 +30,14 @@ impl session_t {
     }
 
     /// Ends the session with a fault, and keeps that.
-    pub(crate) fn end(&mut self, kept: &mut Option<yaml_fault_t>, fault: yaml_fault_t)
+    pub(crate) fn end(&mut self, stored: &mut Option<yaml_fault_t>, fault: yaml_fault_t)
         ensures session { self.new ≡ record { peeked = false; over = true; failed = true } }
-        ensures kept { kept.new ≡ Some fault }
+        ensures stored { stored.new ≡ Some fault }
     {
         self.peeked = false;
         self.over = true;
         self.failed = true;
-        *kept = Some(fault);
+        *stored = Some(fault);
     }
 }
 

@@ -168,7 +168,7 @@ fn has_blocks(group: &group_t) -> bool
 
 /// Gives the block ends of a group and the start of a block collection to a sink, if it hands out any.
 #[inline(always)]
-fn give_front<S: yaml_token_sink_t>(sink: &mut S, group: &group_t) -> Result<(), stop_t>
+fn give_blocks_of<S: yaml_token_sink_t>(sink: &mut S, group: &group_t) -> Result<(), stop_t>
     ensures { let mark = group.now.token.start_mark in
         Gives (λ tokens. S.took sink.old tokens sink.new) S.may_refuse
         (told_leads (ends_at group.now.ends mark ++ start_at group.now.opens mark)) result }
@@ -198,7 +198,7 @@ fn give_key<S: yaml_token_sink_t>(sink: &mut S, key: bool, mark: yaml_mark_t) ->
 fn give_leads<S: yaml_token_sink_t>(sink: &mut S, group: &group_t) -> Result<(), stop_t>
     ensures { Gives (λ tokens. S.took sink.old tokens sink.new) S.may_refuse (told_leads (leads group.now)) result }
 {
-    match give_front(sink, group) {
+    match give_blocks_of(sink, group) {
         Ok(_) => give_key(sink, group.key, group.token.start_mark),
         Err(stop) => Err(stopped(stop)),
     }
@@ -223,7 +223,7 @@ fn give_keyless<S: yaml_token_sink_t>(sink: &mut S, group: group_t) -> Result<()
     requires words { HasWords (token_of group.token).token_data }
     ensures { Gives (λ tokens. S.took sink.old tokens sink.new) S.may_refuse (group_tokens group) result }
 {
-    match give_front(sink, &group) {
+    match give_blocks_of(sink, &group) {
         Ok(_) => give(sink, group.token),
         Err(stop) => Err(stopped(stop)),
     }

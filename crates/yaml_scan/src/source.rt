@@ -262,14 +262,14 @@ pub(crate) fn read_lexeme<R: reader_t>(
     state: &mut state_t,
     context: yaml_context_t,
 ) -> Result<yaml_lexeme_t, yaml_refusal_t>
-    requires place { (p : ℕ) × IsMarkOf text.now.chars state.old.front p
+    requires place { (p : ℕ) × IsMarkOf text.now.chars state.old.gap_end p
         × ((flow : Bool) × ((source_of text.now.chars).kind flow p ≡ Some R.KIND)) }
     requires level { IfSome context.level (λ l. l ≤ length text.now.chars) }
     ensures { HasRead (scanner_of text.now state.old) (scanner_of text.now state.new) R.KIND context result }
 {
     let mut spot = yaml_spot_t {
         text: text,
-        at: state.front,
+        at: state.gap_end,
     };
     let read = R::read(state.alloc, room, &mut spot, context);
     if read.is_err() {
@@ -285,32 +285,32 @@ pub(crate) fn read_character(
     state: &state_t,
     kind: yaml_lexeme_kind_t,
 ) -> yaml_lexeme_t
-    requires place { (p : ℕ) × IsMarkOf text.now.chars state.now.front p
+    requires place { (p : ℕ) × IsMarkOf text.now.chars state.now.gap_end p
         × ((flow : Bool) × ((source_of text.now.chars).kind flow p ≡ Some kind)) }
     requires kind { is_character kind ≡ true }
-    ensures { (p depth : ℕ) (level : Option ℕ) → IsMarkOf text.now.chars state.now.front p
+    ensures { (p depth : ℕ) (level : Option ℕ) → IsMarkOf text.now.chars state.now.gap_end p
         → IsRead text.now.chars kind depth level p (lexeme_of result) }
 {
-    yaml_read_character(text, state.front, kind)
+    yaml_read_character(text, state.gap_end, kind)
 }
 
 /// The document marker after the gap: `---` if `start` is set, and else `...`.
 #[inline(always)]
 pub(crate) fn read_marker(text: &yaml_text_t, state: &state_t, start: bool) -> yaml_lexeme_t
-    requires { (p : ℕ) × IsMarkOf text.now.chars state.now.front p
+    requires { (p : ℕ) × IsMarkOf text.now.chars state.now.gap_end p
         × ((flow : Bool) × ((source_of text.now.chars).kind flow p ≡ Some (marker_kind start))) }
-    ensures { (p depth : ℕ) (level : Option ℕ) → IsMarkOf text.now.chars state.now.front p
+    ensures { (p depth : ℕ) (level : Option ℕ) → IsMarkOf text.now.chars state.now.gap_end p
         → IsRead text.now.chars (marker_kind start) depth level p (lexeme_of result) }
 {
-    yaml_read_marker(text, state.front, start)
+    yaml_read_marker(text, state.gap_end, start)
 }
 
 /// The stream end after the gap.
 #[inline(always)]
 pub(crate) fn read_stream_end(text: &yaml_text_t, state: &state_t) -> yaml_lexeme_t
-    requires { (p : ℕ) × IsMarkOf text.now.chars state.now.front p }
-    ensures { (p depth : ℕ) (level : Option ℕ) → IsMarkOf text.now.chars state.now.front p
+    requires { (p : ℕ) × IsMarkOf text.now.chars state.now.gap_end p }
+    ensures { (p depth : ℕ) (level : Option ℕ) → IsMarkOf text.now.chars state.now.gap_end p
         → IsRead text.now.chars STREAM_END depth level p (lexeme_of result) }
 {
-    yaml_read_stream_end(text, state.front)
+    yaml_read_stream_end(text, state.gap_end)
 }

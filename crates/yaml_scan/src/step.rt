@@ -89,7 +89,7 @@ fn refuse_kind(
     requires allowed { allowed ≡ allowed_in (scanner_of text.now state.old) in_flow }
     ensures { MatchResult result
         (λ _. IsMet before (scanner_of text.now state.old)
-        record { kind = kind; front = state.old.front; allowed = allowed }
+        record { kind = kind; gap_end = state.old.gap_end; allowed = allowed }
         × (state.new ≡ state.old)) (λ stop. Refuses before (scanner_of text.now state.old)
         (scanner_of text.now state.new) stop) }
 {
@@ -118,7 +118,7 @@ pub(crate) fn begin_step(
         (scanner_of text.now state.old) (scanner_of text.now state.new))
         (λ stop. Refuses before (scanner_of text.now state.old) (scanner_of text.now state.new) stop) }
 {
-    let allowed = is_key_allowed(state.allowed, in_flow, state.reach, state.front);
+    let allowed = is_key_allowed(state.allowed, in_flow, state.reach, state.gap_end);
     match refuse_kind(text, state, in_flow, kind, allowed) {
         Ok(_) => {}
         Err(stop) => return Err(stopped(stop)),
@@ -383,13 +383,13 @@ fn step_at<const DIRECT: bool, S: yaml_token_sink_t>(
         S.may_refuse result }
     ensures within { OnOk result (S.within sink.old → S.within sink.new) }
 {
-    let front = gap_end(text, state.reach, in_flow, state.allowed);
-    state.front = front;
+    let gap_end = gap_end(text, state.reach, in_flow, state.allowed);
+    state.gap_end = gap_end;
     let root = root_at(&state.slots.outer, state.slots.top, in_flow);
-    if is_lost(root, in_flow, state.limit, front) {
+    if is_lost(root, in_flow, state.limit, gap_end) {
         return Err(stop_in_gap(text, state));
     }
-    match kind_at(text, front, in_flow) {
+    match kind_at(text, gap_end, in_flow) {
         Some(kind) => step_any::<DIRECT, S>(text, state, sink, in_flow, kind),
         None => Err(stop_without_kind(text, state)),
     }

@@ -11,7 +11,7 @@ ghost use Rattle.yaml_scan.specs.inside.Stop.{fault_at};
 ghost use Rattle.yaml_scan.specs.declared.kind.step_t.{step_t};
 ghost use Rattle.yaml_scan.specs.Laid.{Laid};
 ghost use Rattle.yaml_scan.specs.SourceOf.{source_of};
-ghost use Rattle.yaml_scan.specs.Step.{front_of, no_colon, in_simple_key};
+ghost use Rattle.yaml_scan.specs.Step.{gap_end_of, no_colon, in_simple_key};
 ghost use Rattle.yaml_scan.specs.inside.Slots.{lost_held, root_of};
 ghost use Rattle.yaml_scan.specs.inside.Scanner.{scanner_of};
 ghost use Rattle.yaml_scan.specs.inside.Scanning.{CanRead, CanStep, Comes, Ends, StopsAfter, IsReadIn, Offends, Passes};
@@ -74,7 +74,7 @@ pub(crate) fn make_scanner_fault(
     }
 }
 
-/// Why a step stopped: memory was refused, or there is a fault, which was kept, or the sink refused a token.
+/// Why a step stopped: memory was refused, or there is a fault, which was stored, or the sink refused a token.
 #[derive(Clone, Copy)]
 pub(crate) enum stop_t {
     MEMORY,
@@ -108,12 +108,12 @@ pub(crate) fn stopped(stop: stop_t) -> stop_t
 }
 
 /// The fault of a stop, if that is not by the sink.
-pub(crate) fn fault_at(stop: stop_t, kept: &Option<yaml_fault_t>) -> yaml_fault_t
-    ensures { fault_of result ≡ fault_at stop kept.now }
+pub(crate) fn fault_at(stop: stop_t, stored: &Option<yaml_fault_t>) -> yaml_fault_t
+    ensures { fault_of result ≡ fault_at stop stored.now }
 {
     match stop {
         stop_t::MEMORY => make_memory_fault(),
-        stop_t::FAULT => match kept {
+        stop_t::FAULT => match stored {
             Some(fault) => *fault,
             None => make_bare_fault(yaml_error_type_t::YAML_NO_ERROR),
         },
@@ -189,16 +189,16 @@ fn stop_without(
 pub(crate) fn stop_in_gap(text: &yaml_text_t, state: &mut state_t) -> stop_t
     ghost before: { List Laid }
     requires can { CanStep before (scanner_of text.now state.old) }
-    requires front { IsMarkOf text.now.chars state.old.front
-        (front_of (source_of text.now.chars) before) }
-    requires lost { is_some (lost_held state.old.limit state.old.front
+    requires gap_end { IsMarkOf text.now.chars state.old.gap_end
+        (gap_end_of (source_of text.now.chars) before) }
+    requires lost { is_some (lost_held state.old.limit state.old.gap_end
         (root_of state.old.slots.outer.items state.old.slots.top)) ≡ true }
     ensures { Refuses before (scanner_of text.now state.old) (scanner_of text.now state.new) result }
 {
-    let front = state.front;
+    let gap_end = state.gap_end;
     let root = root(&state.slots.outer, state.slots.top);
-    match lost_at(root, state.limit, front) {
-        Some(held) => stop_without(text, state, held, front),
+    match lost_at(root, state.limit, gap_end) {
+        Some(held) => stop_without(text, state, held, gap_end),
         None => unreachable!(),
     }
 }
@@ -209,15 +209,15 @@ pub(crate) fn stop_without_kind(text: &yaml_text_t, state: &mut state_t) -> stop
     ghost before: { List Laid }
     requires { (in_flow : Bool) × Passes before (scanner_of text.now state.old) in_flow
         × ((source_of text.now.chars).kind in_flow
-        (front_of (source_of text.now.chars) before) ≡ None) }
+        (gap_end_of (source_of text.now.chars) before) ≡ None) }
     ensures { Refuses before (scanner_of text.now state.old) (scanner_of text.now state.new) result }
 {
-    let front = state.front;
+    let gap_end = state.gap_end;
     let fault = make_scanner_fault(
         "found character that cannot start any token",
-        front,
+        gap_end,
         Some("while scanning for the next token"),
-        front,
+        gap_end,
     );
     keep_nearest(text, state, fault)
 }
@@ -236,11 +236,11 @@ pub(crate) fn stop_at_kind(
         (allowed_in (scanner_of text.now state.old) in_flow)) ≡ true }
     ensures { Refuses before (scanner_of text.now state.old) (scanner_of text.now state.new) result }
 {
-    let front = state.front;
-    let allowed = is_key_allowed(state.allowed, in_flow, state.reach, front);
+    let gap_end = state.gap_end;
+    let allowed = is_key_allowed(state.allowed, in_flow, state.reach, gap_end);
     match state.refused_by(in_flow, kind, allowed) {
         Some(problem) => {
-            let fault = make_scanner_fault(problem, front, None, front);
+            let fault = make_scanner_fault(problem, gap_end, None, gap_end);
             keep_nearest(text, state, fault)
         }
         None => unreachable!(),
@@ -263,10 +263,10 @@ pub(crate) fn stop_at_start(
         (allowed_in (scanner_of text.now state.old) in_flow)) ≡ true }
     ensures { Refuses before (scanner_of text.now state.old) (scanner_of text.now state.new) result }
 {
-    let front = state.front;
-    let allowed = is_key_allowed(state.allowed, in_flow, state.reach, front);
+    let gap_end = state.gap_end;
+    let allowed = is_key_allowed(state.allowed, in_flow, state.reach, gap_end);
     match state.cleared_by(in_flow, kind, allowed) {
-        Some(held) => stop_without(text, state, held, start_after(kind, front)),
+        Some(held) => stop_without(text, state, held, start_after(kind, gap_end)),
         None => unreachable!(),
     }
 }
@@ -287,7 +287,7 @@ pub(crate) fn stop_in_lexeme(
     match refusal {
         yaml_refusal_t::MEMORY => stop_t::MEMORY,
         yaml_refusal_t::OFFENCE(_) => {
-            let fault = yaml_lexeme_fault(refusal, kind, state.front, state.there);
+            let fault = yaml_lexeme_fault(refusal, kind, state.gap_end, state.there);
             keep_nearest(text, state, fault)
         }
     }

@@ -16,10 +16,10 @@ pub mod NarrowLanes
 pub mod NarrowRuns
 -- Bytes whose windows are clean are whole characters.
 pub mod WholeRuns
--- Slots that are joined make what was read of UTF-16 grow by the units that they spell.
-pub mod SlotRuns
--- Four vectors that are put together lane by lane make slots of four bytes.
-pub mod SlotLanes
+-- Cells that are joined make what was read of UTF-16 grow by the units that they spell.
+pub mod CellRuns
+-- Four vectors that are put together lane by lane make cells of four bytes.
+pub mod CellLanes
 -- Vectors that are computed lane by lane from the halves of units are functions of the units.
 pub mod UnitLanes
 -- Sixteen units of UTF-16 that are cut at 7F, as bytes, and which of these are no characters by themselves.

@@ -4,6 +4,6 @@ pub mod Cursor
 pub mod Fronts
 pub mod Held
 pub mod Singles
-pub mod Slots
+pub mod Cells
 pub mod Units
 pub mod Windows

@@ -5,7 +5,7 @@ ghost use Rattle.std.specs.Prelude.{OnErr, OnOk, IfSome, IsNone, vec_capacity};
 ghost use Rattle.std.specs.Simd.Lanes.{Each1};
 ghost use Rattle.yaml_text.specs.TextBytes.{IsChar};
 ghost use Rattle.yaml_text.specs.inside.Singles.{is_single};
-ghost use Rattle.yaml_text.specs.inside.Slots.{AreFew, IsSlotOf, Spells, packed};
+ghost use Rattle.yaml_text.specs.inside.Cells.{AreFew, IsCellOf, Spells, packed};
 ghost use Rattle.yaml_text.specs.Utf16.{unit_at, is_low, is_high, spelling16, offence16};
 ghost use Rattle.yaml_text.specs.inside.Units.{Begins16, BeginsWithNone16};
 ghost use Rattle.yaml_text.specs.inside.Units.{Reads16};
@@ -123,7 +123,7 @@ fn narrow(bytes: &[u8], big: bool) -> u8x16
 /// Sixteen units as bytes. A unit below A0 is the byte itself. A surrogate, FFFE or FFFF is the byte 80. Every other
 /// unit is a character, and a space stands for it. If a byte is a character by itself, its unit is a character.
 #[inline(always)]
-fn shown(low: u8x16, high: u8x16) -> u8x16
+fn stand_ins(low: u8x16, high: u8x16) -> u8x16
     ensures long { length result ≡ 16 }
     ensures units { (k : ℕ) → k < 16 → is_single (slice_index result k) ≡ true
         → IsChar (slice_index high k * 256 + slice_index low k) }
@@ -159,48 +159,48 @@ fn spelled(low: u8x16, high: u8x16) -> (u8x16, u8x16, u8x16, u8x16)
 
 /// Writes 16 bytes from a place on.
 #[inline(always)]
-fn lay(slots: &mut [u8], at: usize, v: u8x16)
-    requires { at + 16 ≤ length slots.old }
-    ensures laid { (k : ℕ) → k < 16 → slice_index slots.new (at + k) ≡ slice_index v k }
-    ensures before { (k : ℕ) → k < at → slice_index slots.new k ≡ slice_index slots.old k }
+fn lay(cells: &mut [u8], at: usize, v: u8x16)
+    requires { at + 16 ≤ length cells.old }
+    ensures laid { (k : ℕ) → k < 16 → slice_index cells.new (at + k) ≡ slice_index v k }
+    ensures before { (k : ℕ) → k < at → slice_index cells.new k ≡ slice_index cells.old k }
 {
-    v.copy_to_slice(&mut slots[at..]);
+    v.copy_to_slice(&mut cells[at..]);
 }
 
-/// Sixteen slots of four bytes, which have a byte of each vector.
+/// Sixteen cells of four bytes, which have a byte of each vector.
 #[inline(always)]
-fn slots_of(a: u8x16, b: u8x16, c: u8x16, d: u8x16) -> [u8; 64]
+fn cells_of(a: u8x16, b: u8x16, c: u8x16, d: u8x16) -> [u8; 64]
     ensures long { length result ≡ 64 }
-    ensures slots { (k : ℕ) → k < 16 → take 4 (drop (4 * k) result)
+    ensures cells { (k : ℕ) → k < 16 → take 4 (drop (4 * k) result)
         ≡ slice_index a k ∷ slice_index b k ∷ slice_index c k ∷ slice_index d k ∷ [] }
 {
     let (even, even_far) = a.interleave(c);
     let (odd, odd_far) = b.interleave(d);
     let (first, second) = even.interleave(odd);
     let (third, fourth) = even_far.interleave(odd_far);
-    let mut slots = [0; 64];
-    lay(&mut slots, 0, first);
-    lay(&mut slots, 16, second);
-    lay(&mut slots, 32, third);
-    lay(&mut slots, 48, fourth);
-    slots
+    let mut cells = [0; 64];
+    lay(&mut cells, 0, first);
+    lay(&mut cells, 16, second);
+    lay(&mut cells, 32, third);
+    lay(&mut cells, 48, fourth);
+    cells
 }
 
-/// The slots of 16 units.
+/// The cells of 16 units.
 #[inline(always)]
-fn slots(bytes: &[u8], big: bool) -> [u8; 64]
+fn cells(bytes: &[u8], big: bool) -> [u8; 64]
     requires { 32 ≤ length bytes.now }
     ensures long { length result ≡ 64 }
-    ensures units { (k : ℕ) → k < 16 → IsSlotOf (unit_at big bytes.now (2 * k)) result k }
+    ensures units { (k : ℕ) → k < 16 → IsCellOf (unit_at big bytes.now (2 * k)) result k }
 {
     let (low, high) = halves(bytes, big);
     let (first, second, third, counts) = spelled(low, high);
-    slots_of(first, second, third, counts)
+    cells_of(first, second, third, counts)
 }
 
-/// Copies a slot to a place before it, and returns how many bytes of it count.
+/// Copies a cell to a place before it, and returns how many bytes of it count.
 #[inline(always)]
-fn put_slot(items: &mut [u8], from: usize, to: usize) -> usize
+fn put_cell(items: &mut [u8], from: usize, to: usize) -> usize
     requires room { from + 4 ≤ length items.old }
     requires before { to ≤ from }
     requires few { slice_index items.old (from + 3) ≤ 3 }
@@ -221,23 +221,23 @@ fn put_slot(items: &mut [u8], from: usize, to: usize) -> usize
     n as usize
 }
 
-/// Joins the bytes that count of the 16 slots that begin at a place, and returns where they end.
+/// Joins the bytes that count of the 16 cells that begin at a place, and returns where they end.
 #[inline(always)]
-fn join_slots(items: &mut [u8], start: usize) -> usize
+fn join_cells(items: &mut [u8], start: usize) -> usize
     requires room { start + 64 ≤ length items.old }
     requires few { AreFew (drop start items.old) }
     ensures bytes { take result items.new ≡ take start items.old ++ packed 16 (drop start items.old) }
 {
     let mut end = start;
     for k in 0..16 {
-        end += put_slot(items, start + 4 * k, end);
+        end += put_cell(items, start + 4 * k, end);
     }
     end
 }
 
-/// Whether there is room for 16 slots, so that no memory is asked for.
+/// Whether there is room for 16 cells, so that no memory is asked for.
 #[inline(always)]
-fn has_room_for_slots(out: &Vec<u8>) -> bool
+fn has_room_for_cells(out: &Vec<u8>) -> bool
     ensures { result ≡ true → length out.now.items + 64 ≤ vec_capacity out.now }
 {
     out.capacity() - out.len() >= 64
@@ -245,15 +245,15 @@ fn has_room_for_slots(out: &Vec<u8>) -> bool
 
 /// Appends 16 units, which are characters.
 #[inline(always)]
-fn push_slots(out: &mut Vec<u8>, bytes: &[u8], big: bool, at: usize) -> Result<(), AllocError>
+fn push_cells(out: &mut Vec<u8>, bytes: &[u8], big: bool, at: usize) -> Result<(), AllocError>
     requires room { at + 32 ≤ length bytes.now }
     requires chars { (k : ℕ) → k < 16 → IsChar (unit_at big bytes.now (at + 2 * k)) }
     requires read { Reads16 big bytes.now out.old.items at }
     ensures { IfOk result (λ u. Reads16 big bytes.now out.new.items (at + 32)) }
 {
     let before = out.len();
-    out.extend_from_slice(&slots(rest(bytes, at), big))?;
-    let end = join_slots(out.as_mut_slice(), before);
+    out.extend_from_slice(&cells(rest(bytes, at), big))?;
+    let end = join_cells(out.as_mut_slice(), before);
     out.truncate(end);
     Ok(())
 }
@@ -271,7 +271,7 @@ fn are_plain(bytes: &[u8], big: bool) -> bool
     ensures { result ≡ true → (k : ℕ) → k < 16 → IsChar (unit_at big bytes.now (2 * k)) }
 {
     let (low, high) = halves(bytes, big);
-    others(shown(low, high)) == 0
+    others(stand_ins(low, high)) == 0
 }
 
 /// Whether the unit is a character of two or three bytes. U+0085, which is seldom used, is left out.
@@ -281,7 +281,7 @@ fn is_wide(u: u32) -> bool {
 }
 
 /// Appends the first of 16 units, and returns how many. All are appended if they are characters of one byte. All are
-/// appended too if they are characters, several of them have more bytes, and there is room for their slots. Otherwise
+/// appended too if they are characters, several of them have more bytes, and there is room for their cells. Otherwise
 /// those before the first that is no character of one byte are appended.
 #[inline(always)]
 fn push_units(out: &mut Vec<u8>, bytes: &[u8], big: bool, at: usize) -> Result<usize, AllocError>
@@ -300,10 +300,10 @@ fn push_units(out: &mut Vec<u8>, bytes: &[u8], big: bool, at: usize) -> Result<u
     let count = found.trailing_zeros() as usize;
     if is_wide(unit_at(bytes, at + 2 * count, big))
         && are_many(found)
-        && has_room_for_slots(out)
+        && has_room_for_cells(out)
         && are_plain(rest(bytes, at), big)
     {
-        push_slots(out, bytes, big, at)?;
+        push_cells(out, bytes, big, at)?;
         return Ok(16);
     }
     out.extend_from_slice(&units.to_array())?;

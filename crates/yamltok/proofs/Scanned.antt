@@ -5,7 +5,7 @@ use Rattle.yaml_text.specs.declared.types.yaml_encoding_t.{yaml_encoding_t}
 use Rattle.yaml_text.specs.Fault.{Fault}
 use Rattle.yaml_scan.specs.Sink.{IsGivenAll}
 use Rattle.yaml_scan.specs.Words.{HasLine}
-use Rattle.yaml_scan.proofs.SessionCalls.ListLaws.{reads_early}
+use Rattle.yaml_scan.proofs.SessionCalls.ListLaws.{reads_at_start}
 use Rattle.yaml_scan.proofs.SessionCalls.ListWords.{reads_have_lines}
 use Rattle.yamltok.specs.Listing.{token_lines, fault_lines}
 use Rattle.yamltok.specs.Run.{ListsScan}
@@ -27,7 +27,7 @@ module _ (limit : ℕ) (setting : yaml_encoding_t) (input told : List ℕ) (faul
         tokens = given.tokens;
         fault = fault;
         answers = given.reads;
-        early = λ e. reads_early limit setting input given.tokens fault given.reads e;
+        at_start = λ e. reads_at_start limit setting input given.tokens fault given.reads e;
         lines_are = more ∙ ap (λ (z : List ℕ). z ++ fault_lines fault) given.given;
         fault_is = refl;
       }

@@ -19,7 +19,7 @@ use Rattle.yaml_scan.specs.Sessions.{new_session}
 use Rattle.yaml_scan.specs.Inputs.{answers_to}
 use Rattle.yaml_scan.specs.Decoded.{decoded_input}
 use Rattle.yaml_scan.specs.Parser.{Parser}
-use Rattle.yaml_scan.specs.ParserCalls.{IsRefusedEarly, call_of}
+use Rattle.yaml_scan.specs.ParserCalls.{IsRefusedAtStart, call_of}
 use Rattle.yaml_scan.specs.All.{AllOf, ReadsAll}
 use Rattle.yaml_scan.specs.Seen.{Seen}
 use Rattle.yaml_scan.specs.Headline.{Runs}
@@ -48,7 +48,7 @@ pub record ListsScan (limit : ℕ) (setting : yaml_encoding_t) (input lines : Li
   pub fault : Option Fault
   pub answers : ReadsAll limit setting input tokens fault
   -- if the input is refused early, tokens and fault are those of its answers, whatever memory there is
-  pub early : IsRefusedEarly (decoded_input setting input) → AllOf (answers_to limit setting input) tokens fault
+  pub at_start : IsRefusedAtStart (decoded_input setting input) → AllOf (answers_to limit setting input) tokens fault
   pub lines_are : lines ≡ token_lines tokens ++ fault_lines fault
   pub fault_is : has_fault ≡ is_some fault
 

@@ -10,7 +10,7 @@ use Rattle.yaml_lexeme.specs.Gap.{is_gap_blank}
 use Rattle.yaml_text.specs.declared.types.yaml_mark_t.{yaml_mark_t}
 use Rattle.yaml_lexeme.proofs.MarkOrder.ReadingAhead.{ahead_any}
 use Rattle.yaml_lexeme.proofs.Places.PlaceMoves.{skip_none, skip_skip, length_skip, peek_on}
-use Rattle.yaml_lexeme.specs.Order.{IsAhead}
+use Rattle.yaml_lexeme.specs.Order.{IsBeyond}
 use Rattle.yaml_lexeme.specs.Place.{Place, first, peek, skip, run_len, after_run, break_len}
 
 -- CR and LF of one break are on the two sides of the place after n of the characters
@@ -51,7 +51,7 @@ further k j p q r l e h m f g = record {
 pub clear_trans : {p q r : Place} → Clear p q → Clear q r → Clear p r
 clear_trans {p} {q} {r} a b = further a.count b.count p q r a.within a.is a.whole b.within b.is b.whole
 
-pub clear_ahead : (p q : Place) → Clear p q → IsAhead 0 p q
+pub clear_ahead : (p q : Place) → Clear p q → IsBeyond 0 p q
 clear_ahead p q a = record { count = a.count; least = omega arith; within = a.within; is = a.is }
 
 -- what is left there is no longer
@@ -59,10 +59,10 @@ pub clear_length : {p q : Place} → Clear p q → length q.rest ≤ length p.re
 clear_length {p} {q} a = omega (arith, length_skip a.count p, ap (λ (x : Place). length x.rest) a.is)
 
 -- a character or more ahead
-pub clear_nearer : (p q : Place) → Clear p q → length q.rest < length p.rest → IsAhead 1 p q
+pub clear_nearer : (p q : Place) → Clear p q → length q.rest < length p.rest → IsBeyond 1 p q
 clear_nearer p q a h = record { count = a.count; least = omega (arith, length_skip a.count p, ap (λ (x : Place). length x.rest) a.is); within = a.within; is = a.is }
 
-pub clear_next : (p q : Place) → 0 < length p.rest → Clear (skip 1 p) q → IsAhead 1 p q
+pub clear_next : (p q : Place) → 0 < length p.rest → Clear (skip 1 p) q → IsBeyond 1 p q
 clear_next p q h a = record { count = 1 + a.count; least = omega arith; within = omega (arith, a.within, length_skip 1 p); is = a.is ∙ skip_skip 1 a.count p }
 
 -- The mark is that of a place on the way from p to q, and both ways are clear.

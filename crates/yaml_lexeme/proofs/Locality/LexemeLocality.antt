@@ -20,7 +20,7 @@ use Rattle.yaml_lexeme.specs.KindSets.{quoted_as}
 use Rattle.yaml_lexeme.specs.StreamEnd.{stream_end, at_end}
 use Rattle.yaml_lexeme.specs.Locality.{move, LexIsLocal}
 use Rattle.yaml_lexeme.specs.Name.{name}
-use Rattle.yaml_lexeme.specs.Order.{IsAhead, OffenceIsAhead}
+use Rattle.yaml_lexeme.specs.Order.{IsBeyond, OffenceIsBeyond}
 use Rattle.yaml_lexeme.specs.Place.{Place, skip}
 use Rattle.yaml_lexeme.specs.Plain.{plain}
 use Rattle.yaml_lexeme.specs.Quoted.{quoted}
@@ -92,11 +92,11 @@ lex_is_local k c = is_local (lex k c) (lex_local k c)
 -- an offence is ahead
 abbrev Offends : Place → Read Lexeme → Type 0
 Offends p (Ok f) = Unit {0}
-Offends p (Err e) = IsAhead 0 p e.at
+Offends p (Err e) = IsBeyond 0 p e.at
 
 offends : (p : Place) (n : ℕ) (r : Read Lexeme) → EndsAt n p r → Offends p r
 offends p n (Ok f) h = tt
-offends p n (Err e) h = subst (λ (x : Place). IsAhead 0 p x) (sym h) (ahead_any n p)
+offends p n (Err e) h = subst (λ (x : Place). IsBeyond 0 p x) (sym h) (ahead_any n p)
 
-pub offence_is_ahead : OffenceIsAhead
+pub offence_is_ahead : OffenceIsBeyond
 offence_is_ahead k c p e h = let l = lex_local k c p in subst (λ (r : Read Lexeme). Offends p r) h (offends p l.count (lex k c p) l.ends)

@@ -6,7 +6,7 @@ use Rattle.yaml_lexeme.proofs.Locality.AgreeingPlaces.{Agree, by_agreeing}
 use Rattle.yaml_lexeme.proofs.MarkOrder.ReadingAhead.{ahead_any}
 use Rattle.yaml_lexeme.proofs.Places.PlaceMoves.{skip_one, skip_more, skip_none, length_skip, skip_skip}
 use Rattle.yaml_lexeme.specs.Locality.{reach, move, IsLocal}
-use Rattle.yaml_lexeme.specs.Order.{IsAhead, distance}
+use Rattle.yaml_lexeme.specs.Order.{IsBeyond, distance}
 use Rattle.yaml_lexeme.specs.Place.{Place, peek, skip, run_len}
 use Rattle.yaml_lexeme.specs.Reading.{Read, found, refuse}
 
@@ -96,7 +96,7 @@ is_local_to read all p q k e a =
     subst (λ (n : ℕ). read q ≡ move (read p) (skip n q)) same (here.same q (subst (λ (n : ℕ). Agree (n + 8) p q) (sym same) a))
 
 -- the place that a distance leads to
-pub distance_on : (p x : Place) → IsAhead 0 p x → x ≡ skip (distance p x) p
+pub distance_on : (p x : Place) → IsBeyond 0 p x → x ≡ skip (distance p x) p
 distance_on p x a =
     let l = ap (λ (y : Place). length y.rest) a.is in
     let c : a.count ≡ distance p x = omega (arith, a.within, length_skip a.count p) in
@@ -112,7 +112,7 @@ is_local read all p q a =
     let here = all p in
     let k = distance p (reach (read p)) in
     let e = reach_is here.count p (read p) here.ends in
-    let ahead : IsAhead 0 p (reach (read p)) = subst (λ (x : Place). IsAhead 0 p x) (sym e) (ahead_any here.count p) in
+    let ahead : IsBeyond 0 p (reach (read p)) = subst (λ (x : Place). IsBeyond 0 p x) (sym e) (ahead_any here.count p) in
     let is = distance_on p (reach (read p)) ahead in
     elim (by_agreeing (k + 8) p q a) [
       | inl same ↦ subst (λ (x : Place). read x ≡ move (read p) (skip k x)) same (move_self (read p) (skip k p) is)

@@ -2,7 +2,7 @@
 use Rattle.std.proofs.Common.{◌≡◌, ℕ, zero, suc, ◌+◌, ◌<◌, List, [], ◌∷◌, ◌++◌, length, take, Some, None, Ok, Err, refl}
 use Rattle.std.proofs.Common.{sym, ap, ◌∙◌, subst, arith, append_assoc}
 use Rattle.std.proofs.lemmas.List.{append-nil, append_cancel_right, length-take-le, take-append-drop}
-use Rattle.yaml_lexeme.specs.Order.{IsAhead}
+use Rattle.yaml_lexeme.specs.Order.{IsBeyond}
 use Rattle.yaml_lexeme.specs.Parts.{Piece, past, IsPiece, Pieces, texts, values, IsLongest, OthersBegin}
 use Rattle.yaml_lexeme.specs.Place.{Place, skip}
 use Rattle.yaml_lexeme.specs.Reading.{Offence, Found, Read, found, ◌>>=◌, Part, part, over, with_front, go_on, many}
@@ -26,7 +26,7 @@ piece_of n p value = record { text = take n p.rest; value = value }
 pub split : (n : ℕ) (p : Place) → p.rest ≡ take n p.rest ++ (skip n p).rest
 split n p = sym (ap (λ (cs : List ℕ). take n p.rest ++ cs) (rest_skip n p) ∙ take-append-drop n p.rest)
 
-is_piece : {A : Type 0} → (one : Place → Part A) (p : Place) (f : Found A) → one p ≡ part f.value f.end → (a : IsAhead 1 p f.end) → IsPiece one p (piece_of a.count p f.value) × (past (piece_of a.count p f.value) p ≡ f.end)
+is_piece : {A : Type 0} → (one : Place → Part A) (p : Place) (f : Found A) → one p ≡ part f.value f.end → (a : IsBeyond 1 p f.end) → IsPiece one p (piece_of a.count p f.value) × (past (piece_of a.count p f.value) p ≡ f.end)
 is_piece one p f e a =
     let n = a.count in
     let len : length (take n p.rest) ≡ n = length-take-le n p.rest a.within in
@@ -39,7 +39,7 @@ is_piece one p f e a =
       there ∙ sym a.is,
     )
 
-front : {A : Type 0} → (one : Place → Part A) (p : Place) (f : Found A) → one p ≡ part f.value f.end → IsAhead 1 p f.end → (r : Read (List A)) → Reads one f.end r → Reads one p (with_front (f.value ∷ []) r)
+front : {A : Type 0} → (one : Place → Part A) (p : Place) (f : Found A) → one p ≡ part f.value f.end → IsBeyond 1 p f.end → (r : Read (List A)) → Reads one f.end r → Reads one p (with_front (f.value ∷ []) r)
 front {A} one p f e a (Ok g) h =
     let i = is_piece one p f e a in
     (piece_of a.count p f.value ∷ h.0, (i.0, subst (λ (x : Place). Pieces one x h.0 g.end) (sym i.1) h.1), ap (λ (vs : List A). f.value ∷ vs) h.2, h.3)

@@ -7,7 +7,7 @@ use Rattle.yaml_lexeme.proofs.CountedMarks.WholePlaces.{clear_ahead}
 use Rattle.yaml_lexeme.proofs.Locality.GapLocality.{gap_clear}
 use Rattle.yaml_lexeme.proofs.Places.PlaceMoves.{skip_one, skip_none, skip_more, length_one}
 use Rattle.yaml_lexeme.specs.Gap.{gap}
-use Rattle.yaml_lexeme.specs.Order.{IsAhead, IsAfter, GapOrder}
+use Rattle.yaml_lexeme.specs.Order.{IsBeyond, IsAfter, GapOrder}
 use Rattle.yaml_lexeme.specs.Place.{Place, peek, skip}
 use Rattle.yaml_lexeme.specs.inside.Moves.{ends_line}
 
@@ -44,7 +44,7 @@ skip_after (suc k) p h =
     (after_trans 1 k p.mark (skip 1 p).mark (skip k (skip 1 p)).mark (one_after p (omega arith)) (skip_after k (skip 1 p) (omega (arith, length_one p)))))
 
 -- the marks of places
-pub marks_after : (n : ℕ) (p q : Place) → IsAhead n p q → IsAfter n p.mark q.mark
+pub marks_after : (n : ℕ) (p q : Place) → IsBeyond n p q → IsAfter n p.mark q.mark
 marks_after n p q a = subst (λ (x : Place). IsAfter n p.mark x.mark) (sym a.is) (after_less n a.count p.mark (skip a.count p).mark a.least (skip_after a.count p a.within))
 
 pub gap_order : GapOrder

@@ -13,7 +13,7 @@ use Rattle.yaml_scan.specs.Depth.{depth}
 use Rattle.yaml_scan.specs.Allowed.{allowed, allowed_after}
 use Rattle.yaml_scan.specs.Levels.{level, laid, is_required}
 use Rattle.yaml_scan.specs.Source.{Source, Reading, Offence}
-use Rattle.yaml_scan.specs.Step.{Outcome, step, front_of, place_after, unless}
+use Rattle.yaml_scan.specs.Step.{Outcome, step, gap_end_of, place_after, unless}
 use Rattle.yaml_scan.specs.Step.{refuse, stale, only_stale, required, only_required, clears, replaces, refused}
 use Rattle.yaml_scan.specs.Step.{start_at, end_of, lexeme_of}
 use Rattle.yaml_scan.specs.Step.Outcome.{Reads, Faults}
@@ -29,7 +29,7 @@ module _ (cs : List ℕ) where
 
   -- LEXEMES
   pub record Marked (x : Lexeme) : Type 0 where
-    pub front : IsCounted cs x.front
+    pub gap_end : IsCounted cs x.gap_end
     pub other : is_stream_end x.kind ≡ false → IsCounted cs x.start × IsCounted cs x.end × IsCounted cs x.reach × Whole cs x.place
     pub last : is_stream_end x.kind ≡ true → IsStreamEnd cs x.start × IsStreamEnd cs x.end × IsStreamEnd cs x.reach
 
@@ -131,7 +131,7 @@ module _ (cs : List ℕ) where
 
     lexeme_marked : (k : Kind) (p : ℕ) (r : Reading) → Whole cs p → S.kind (nat_lt 0 (depth H)) p ≡ Some k → ReadMarked cs k r → Marked (lexeme_of k (S.mark p) r)
     lexeme_marked k p r w h m = record {
-      front = s.mark p w;
+      gap_end = s.mark p w;
       other = λ e. (subst (λ (b : Bool). IsCounted cs (if b then end_of (S.mark p) else S.mark p)) (sym e) (s.mark p w), (m.other e).0, (m.other e).1, (m.other e).2);
       last = λ e. (subst (λ (b : Bool). IsStreamEnd cs (if b then end_of (S.mark p) else S.mark p)) (sym e) (s.ends (nat_lt 0 (depth H)) p k w h e), (m.last e).0, (m.last e).1);
     }
@@ -166,7 +166,7 @@ module _ (cs : List ℕ) where
     unfolding step read_step
     step_marked e =
         let w = s.gap (nat_lt 0 (depth H)) (allowed_after H) (place_after H) (after_whole e) in
-        let p = front_of S H in
+        let p = gap_end_of S H in
         let k = S.kind (nat_lt 0 (depth H)) p in
         unless_marked (stale limit H (S.mark p)) (S.mark p) p (kind_step S limit H p k) (stale_counts limit H (S.mark p) a) (inl (s.mark p w)) (kind_marked p k w refl)
 

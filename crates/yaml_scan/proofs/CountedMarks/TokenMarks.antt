@@ -68,10 +68,10 @@ module _ (cs : List ℕ) where
   ]
 
   end_marked : (x : Lexeme) (c : ℕ) → Marked cs x → Either cs (end_mark x c)
-  end_marked x c m = cases (is_stream_end x.kind && nat_lt x.front.column c)
+  end_marked x c m = cases (is_stream_end x.kind && nat_lt x.gap_end.column c)
     where
-      cases : (b : Bool) → Either cs (if b then x.front else x.start)
-      cases true = inl m.front
+      cases : (b : Bool) → Either cs (if b then x.gap_end else x.start)
+      cases true = inl m.gap_end
       cases false = start_marked x m
 
   ends_marked : (x : Lexeme) (columns : List ℕ) → Marked cs x → TokensMarked (map (λ c. BlockEnd (end_mark x c)) columns)

@@ -13,7 +13,7 @@ use Rattle.yaml_scan.specs.Levels.{laid, level}
 use Rattle.yaml_scan.specs.Order.{Follows, IsHistory}
 use Rattle.yaml_scan.specs.Source.{Source, Reading, Offence}
 use Rattle.yaml_scan.specs.Step.{Outcome, place_after, step, unless, refuse, stale}
-use Rattle.yaml_scan.specs.Step.{refused, clears, start_at, lexeme_of, front_of}
+use Rattle.yaml_scan.specs.Step.{refused, clears, start_at, lexeme_of, gap_end_of}
 use Rattle.yaml_scan.specs.Laws.{CutIsLongest, CutIsHistory, CutIsShort}
 use Rattle.yaml_scan.specs.Step.Outcome.{Reads, Faults}
 use Rattle.yaml_scan.specs.Cut.{SaysKind, cut, IsRun, EndsWith, KeepsOrder}
@@ -31,36 +31,36 @@ refuse_reads (Some i) m p y x e = cc
 pub record IsStepOf (S : Source) (H : List Laid) (x : Lexeme) : Type 0 where
   pub kind : Kind
   pub reading : Reading
-  pub kind_is : S.kind (nat_lt 0 (depth H)) (front_of S H) ≡ Some kind
-  pub reading_is : S.read kind (depth H) (level H kind (start_at kind (S.mark (front_of S H)))) (front_of S H) ≡ Ok reading
-  pub lexeme_is : x ≡ lexeme_of kind (S.mark (front_of S H)) reading
+  pub kind_is : S.kind (nat_lt 0 (depth H)) (gap_end_of S H) ≡ Some kind
+  pub reading_is : S.read kind (depth H) (level H kind (start_at kind (S.mark (gap_end_of S H)))) (gap_end_of S H) ≡ Ok reading
+  pub lexeme_is : x ≡ lexeme_of kind (S.mark (gap_end_of S H)) reading
 
 reads_same : (x y : Lexeme) → Reads x ≡ Reads y → y ≡ x
 reads_same x y e = cc
 
 module _ (S : Source) (limit : ℕ) (H : List Laid) (x : Lexeme) where
-  of_reading : (k : Kind) → S.kind (nat_lt 0 (depth H)) (front_of S H) ≡ Some k → (r : Result Reading Offence)
-      → S.read k (depth H) (level H k (start_at k (S.mark (front_of S H)))) (front_of S H) ≡ r → after_read limit H k (S.mark (front_of S H)) r ≡ Reads x → IsStepOf S H x
+  of_reading : (k : Kind) → S.kind (nat_lt 0 (depth H)) (gap_end_of S H) ≡ Some k → (r : Result Reading Offence)
+      → S.read k (depth H) (level H k (start_at k (S.mark (gap_end_of S H)))) (gap_end_of S H) ≡ r → after_read limit H k (S.mark (gap_end_of S H)) r ≡ Reads x → IsStepOf S H x
   of_reading k q (Err o) e f = absurd (not_reads o f)
     where
       not_reads : (o : Offence) → Faults o ≡ Reads x → ⊥
       not_reads o f = cc
   of_reading k q (Ok r) e f = record { kind = k; reading = r; kind_is = q; reading_is = e; lexeme_is = reads_same _ x (unless_reads _ _ _ _ x f) }
 
-  of_kind : (o : Option Kind) → S.kind (nat_lt 0 (depth H)) (front_of S H) ≡ o → kind_step S limit H (front_of S H) o ≡ Reads x → IsStepOf S H x
+  of_kind : (o : Option Kind) → S.kind (nat_lt 0 (depth H)) (gap_end_of S H) ≡ o → kind_step S limit H (gap_end_of S H) o ≡ Reads x → IsStepOf S H x
   unfolding read_step
   of_kind None q e = absurd (not_reads _ e)
     where
       not_reads : (o : Offence) → Faults o ≡ Reads x → ⊥
       not_reads o f = cc
   of_kind (Some k) q e =
-      let a : unless (clears limit H k (S.mark (front_of S H))) (start_at k (S.mark (front_of S H))) (front_of S H) (read_step S limit H k (front_of S H)) ≡ Reads x = refuse_reads (refused limit H k (S.mark (front_of S H))) (S.mark (front_of S H)) (front_of S H) _ x e in
-      let b : read_step S limit H k (front_of S H) ≡ Reads x = unless_reads (clears limit H k (S.mark (front_of S H))) (start_at k (S.mark (front_of S H))) (front_of S H) _ x a in
+      let a : unless (clears limit H k (S.mark (gap_end_of S H))) (start_at k (S.mark (gap_end_of S H))) (gap_end_of S H) (read_step S limit H k (gap_end_of S H)) ≡ Reads x = refuse_reads (refused limit H k (S.mark (gap_end_of S H))) (S.mark (gap_end_of S H)) (gap_end_of S H) _ x e in
+      let b : read_step S limit H k (gap_end_of S H) ≡ Reads x = unless_reads (clears limit H k (S.mark (gap_end_of S H))) (start_at k (S.mark (gap_end_of S H))) (gap_end_of S H) _ x a in
       of_reading k q _ refl b
 
   pub step_is : step S limit H ≡ Reads x → IsStepOf S H x
   unfolding step read_step
-  step_is e = of_kind _ refl (unless_reads (stale limit H (S.mark (front_of S H))) (S.mark (front_of S H)) (front_of S H) _ x e)
+  step_is e = of_kind _ refl (unless_reads (stale limit H (S.mark (gap_end_of S H))) (S.mark (gap_end_of S H)) (gap_end_of S H) _ x e)
 
 -- THE ORDER OF STEPS
 pub record IsNext (so_far : yaml_mark_t) (place size : ℕ) (x : Lexeme) : Type 0 where
@@ -85,11 +85,11 @@ module _ (S : Source) (k : KeepsOrder S) (limit : ℕ) where
       let s = step_is S limit H x e in
       let g = k.gap_within (nat_lt 0 (depth H)) (allowed_after H) (place_after H) a.within in
       let m = k.gap_marks (nat_lt 0 (depth H)) (allowed_after H) (place_after H) a.within in
-      let r = k.reads s.kind (depth H) (level H s.kind (start_at s.kind (S.mark (front_of S H)))) (front_of S H) s.reading g.1 s.kind_is s.reading_is in
+      let r = k.reads s.kind (depth H) (level H s.kind (start_at s.kind (S.mark (gap_end_of S H)))) (gap_end_of S H) s.reading g.1 s.kind_is s.reading_is in
       let f = r.follows in
-      let w : IsNext (reach H) (place_after H) S.size (lexeme_of s.kind (S.mark (front_of S H)) s.reading) × (is_stream_end s.kind ≡ false → s.reading.reach ≡ S.mark s.reading.place) = (
+      let w : IsNext (reach H) (place_after H) S.size (lexeme_of s.kind (S.mark (gap_end_of S H)) s.reading) × (is_stream_end s.kind ≡ false → s.reading.reach ≡ S.mark s.reading.place) = (
         record {
-          follows = record { front = rw a.mark m; start = f.start; at_once = f.at_once; end = f.end; reach = f.reach; takes_a_byte = f.takes_a_byte; takes_a_column = f.takes_a_column; ends_at_column_0 = f.ends_at_column_0 };
+          follows = record { gap_end = rw a.mark m; start = f.start; at_once = f.at_once; end = f.end; reach = f.reach; takes_a_byte = f.takes_a_byte; takes_a_column = f.takes_a_column; ends_at_column_0 = f.ends_at_column_0 };
           says = r.says;
           within = r.within;
           takes_a_character = λ n. let t = r.takes_a_character n in let l = g.0 in omega arith;

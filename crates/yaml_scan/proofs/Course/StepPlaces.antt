@@ -12,7 +12,7 @@ use Rattle.yaml_scan.specs.Allowed.{allowed_after}
 use Rattle.yaml_scan.specs.Levels.{laid, level}
 use Rattle.yaml_scan.specs.Source.{Source, Reading, Offence}
 use Rattle.yaml_scan.specs.Step.{Outcome, place_after, step, unless, refuse, stale}
-use Rattle.yaml_scan.specs.Step.{refused, clears, start_at, lexeme_of, front_of}
+use Rattle.yaml_scan.specs.Step.{refused, clears, start_at, lexeme_of, gap_end_of}
 use Rattle.yaml_scan.specs.Step.Outcome.{Reads}
 use Rattle.yaml_scan.specs.Cut.{IsRun, KeepsOrder, IsReadInOrder}
 use Rattle.yaml_scan.specs.Near.{place_of}
@@ -35,7 +35,7 @@ read_on S c p r l w = elim (cases_Bool (is_stream_end c)) [
 
 module _ (S : Source) (k : KeepsOrder S) (limit : ℕ) (H : List Laid) (a : IsReadTo S H) where
   abbrev G : ℕ
-  G = front_of S H
+  G = gap_end_of S H
 
   gap : (place_after H ≤ G) × (G ≤ S.size)
   gap = k.gap_within (nat_lt 0 (depth H)) (allowed_after H) (place_after H) a.within

@@ -16,7 +16,7 @@ use Rattle.yaml_scan.specs.Source.{Source, Reading, Offence}
 use Rattle.yaml_scan.specs.Depth.{depth}
 use Rattle.yaml_scan.specs.Allowed.{allowed}
 use Rattle.yaml_scan.specs.Keys.{candidate, completed_by}
-use Rattle.yaml_scan.specs.Levels.{is_completed, opens, still_open, open_columns, kept_columns, level, laid}
+use Rattle.yaml_scan.specs.Levels.{is_completed, opens, still_open, open_columns, staying_columns, level, laid}
 use Rattle.yaml_scan.specs.Groups.{block_ends, inserted, group, groups, offline}
 use Rattle.yaml_scan.specs.Settled.{is_current, waiting, up_to, before}
 use Rattle.yaml_scan.specs.Sessions.{queued}
@@ -50,11 +50,11 @@ after_call (Ends q p) = q
 after_call (Offends q p k problem at context) = q
 after_call (Empty q p) = q
 
-abbrev front : Entry → ℕ
-front (Lexed q p k d e r b) = p
-front (Ends q p) = p
-front (Offends q p k problem at context) = p
-front (Empty q p) = p
+abbrev gap_end : Entry → ℕ
+gap_end (Lexed q p k d e r b) = p
+gap_end (Ends q p) = p
+gap_end (Offends q p k problem at context) = p
+gap_end (Empty q p) = p
 
 abbrev kind_of : Entry → Option Kind
 kind_of (Lexed q p k d e r b) = Some k
@@ -70,15 +70,15 @@ read_of starts (Empty q p) = Err (record { fault = scanner_fault [] zero_mark No
 
 abbrev gap_from : List Entry → ℕ → ℕ
 gap_from [] q = q
-gap_from (e ∷ es) q = if nat_eq (after_call e) q then front e else gap_from es q
+gap_from (e ∷ es) q = if nat_eq (after_call e) q then gap_end e else gap_from es q
 
 abbrev kind_from : List Entry → ℕ → Option Kind
 kind_from [] p = None
-kind_from (e ∷ es) p = if nat_eq (front e) p then kind_of e else kind_from es p
+kind_from (e ∷ es) p = if nat_eq (gap_end e) p then kind_of e else kind_from es p
 
 abbrev read_from : List ℕ → List Entry → ℕ → Result Reading Offence
 read_from starts [] p = Err (record { fault = scanner_fault [] zero_mark None zero_mark; place = p })
-read_from starts (e ∷ es) p = if nat_eq (front e) p then read_of starts e else read_from starts es p
+read_from starts (e ∷ es) p = if nat_eq (gap_end e) p then read_of starts e else read_from starts es p
 
 abbrev source : ℕ → List ℕ → List Entry → Source
 source size starts es = record {
@@ -96,7 +96,7 @@ abbrev reader_says : ℕ → ℕ → List ℕ → Fault
 reader_says offset value problem = record { error = YAML_READER_ERROR; problem = Some problem; offset = offset; value = pos value; problem_mark = zero_mark; context = None; context_mark = zero_mark }
 
 scan : ℕ → ℕ → List ℕ → Option Fault → List Entry → Answers
-unfolding answers course next step read_step required stale refused clears before up_to waiting is_current offline groups group inserted block_ends laid level kept_columns open_columns still_open opens is_completed completed_by candidate allowed depth
+unfolding answers course next step read_step required stale refused clears before up_to waiting is_current offline groups group inserted block_ends laid level staying_columns open_columns still_open opens is_completed completed_by candidate allowed depth
 scan limit size starts refusal es = answers limit (record { encoding = YAML_UTF8_ENCODING; source = source size starts es; refusal = refusal })
 
 -- `a: 1`
@@ -704,12 +704,12 @@ limit_one_required = refl
 
 -- SESSIONS
 called : ℕ → ℕ → List ℕ → List Entry → List Call → List Answer
-unfolding session pace steps_for least answers course next step read_step required stale refused clears before up_to waiting is_current offline groups group inserted block_ends laid level kept_columns open_columns still_open opens is_completed completed_by candidate allowed depth
+unfolding session pace steps_for least answers course next step read_step required stale refused clears before up_to waiting is_current offline groups group inserted block_ends laid level staying_columns open_columns still_open opens is_completed completed_by candidate allowed depth
 called limit size starts es calls = session YAML_UTF8_ENCODING limit (course limit (record { encoding = YAML_UTF8_ENCODING; source = source size starts es; refusal = None })) calls new_session
 
 -- how many steps are queued, and how far the last one was read
 seen : ℕ → ℕ → List ℕ → List Entry → List Call → ℕ × yaml_mark_t
-unfolding after_all queued pace steps_for least course next step read_step required stale refused clears before up_to waiting is_current offline groups group inserted block_ends laid level kept_columns open_columns still_open opens is_completed completed_by candidate allowed depth
+unfolding after_all queued pace steps_for least course next step read_step required stale refused clears before up_to waiting is_current offline groups group inserted block_ends laid level staying_columns open_columns still_open opens is_completed completed_by candidate allowed depth
 seen limit size starts es calls =
     let c = course limit (record { encoding = YAML_UTF8_ENCODING; source = source size starts es; refusal = None }) in
     let s = after_all limit c calls new_session in

@@ -24,7 +24,7 @@ pub laid_depth : (limit : ℕ) (H : List Laid) (x : Lexeme) → (laid limit H x)
 unfolding laid
 laid_depth limit H x = refl
 
-pub laid_allowed : (limit : ℕ) (H : List Laid) (x : Lexeme) → (laid limit H x).key_allowed ≡ allowed H x.front
+pub laid_allowed : (limit : ℕ) (H : List Laid) (x : Lexeme) → (laid limit H x).key_allowed ≡ allowed H x.gap_end
 unfolding laid
 laid_allowed limit H x = refl
 
@@ -61,7 +61,7 @@ IsNotBefore-trans a b c h k = record {
 }
 
 pub to_start : {m : yaml_mark_t} {x : Lexeme} → Follows m x → IsNotBefore m x.start
-to_start f = IsNotBefore-trans _ _ _ f.front f.start
+to_start f = IsNotBefore-trans _ _ _ f.gap_end f.start
 
 pub to_reach : {m : yaml_mark_t} {x : Lexeme} → Follows m x → IsNotBefore x.start x.reach
 to_reach f = IsNotBefore-trans _ _ _ f.end f.reach

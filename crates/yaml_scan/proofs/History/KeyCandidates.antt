@@ -4,7 +4,7 @@ use Rattle.std.specs.Prelude.{◌⊎◌}
 use Rattle.std.proofs.lemmas.Bool.{cases_Bool, eqb-false}
 use Rattle.yaml_scan.specs.Kind.{is_flow_start}
 use Rattle.yaml_scan.specs.Laid.{Laid}
-use Rattle.yaml_scan.specs.Keys.{candidate, enters, settles, is_candidate}
+use Rattle.yaml_scan.specs.Keys.{candidate, enters, changes_candidate, is_candidate}
 
 -- the candidate of depth k after i
 -- a flow start read at k - 1 gives depth k no candidate
@@ -20,7 +20,7 @@ candidate-other i H k e d = rw (e, d) refl
 -- a candidate kind with a key allowed is saved
 pub candidate-saved : (i : Laid) (H : List Laid) (k : ℕ) → enters k i ≡ false → eqb i.depth k ≡ true → is_candidate i ≡ true → i.key_allowed ≡ true → candidate (i ∷ H) k ≡ Some i
 unfolding candidate
-candidate-saved i H k e d c a = let s : settles i ≡ true = rw (c, a) refl in rw (e, d, s) (rw c refl)
+candidate-saved i H k e d c a = let s : changes_candidate i ≡ true = rw (c, a) refl in rw (e, d, s) (rw c refl)
 
 -- with none allowed it leaves the old one
 pub candidate-kept : (i : Laid) (H : List Laid) (k : ℕ) → enters k i ≡ false → eqb i.depth k ≡ true → is_candidate i ≡ true → i.key_allowed ≡ false → candidate (i ∷ H) k ≡ candidate H k
@@ -30,7 +30,7 @@ candidate-kept i H k e d c a = rw (e, d, c, a) refl
 -- any other kind clears it
 pub candidate-cleared : (i : Laid) (H : List Laid) (k : ℕ) → enters k i ≡ false → eqb i.depth k ≡ true → is_candidate i ≡ false → candidate (i ∷ H) k ≡ None
 unfolding candidate
-candidate-cleared i H k e d c = let s : settles i ≡ true = rw c refl in rw (e, d, s) (rw c refl)
+candidate-cleared i H k e d c = let s : changes_candidate i ≡ true = rw c refl in rw (e, d, s) (rw c refl)
 
 -- a flow start enters no depth but the next
 pub enters-same : (i : Laid) (k : ℕ) → eqb i.depth k ≡ true → enters k i ≡ false

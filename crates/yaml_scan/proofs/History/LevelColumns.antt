@@ -11,7 +11,7 @@ use Rattle.yaml_scan.specs.Depth.{depth}
 use Rattle.yaml_scan.specs.Keys.{live, is_candidate}
 use Rattle.yaml_scan.specs.Order.{IsHistory, IsNotBefore}
 use Rattle.yaml_scan.specs.Levels.{is_opener, is_above, is_completed, opens, still_open, keeps, open_columns}
-use Rattle.yaml_scan.specs.Levels.{kept_columns}
+use Rattle.yaml_scan.specs.Levels.{staying_columns}
 use Rattle.yaml_scan.proofs.History.KindTests.{candidate_not_closer, value_not_closer, value_opens_nothing}
 use Rattle.yaml_scan.proofs.History.KeyCandidates.{candidate_split, IsSaved, IsKept, AllKept}
 use Rattle.yaml_scan.proofs.History.HistoryOrder.{to_start, to_reach, start_to_reach, IsNotBefore-trans, IsHistory-older, number_at, depth_at, completed_is, IsCompletion}
@@ -101,8 +101,8 @@ columns_self limit i H h =
     cases false = refl
 
 pub open_columns-none : (limit : ℕ) (i : Laid) (H : List Laid) → IsHistory limit (i ∷ H) → i.completed ≡ None
-    → open_columns (i ∷ H) ≡ (if opens_itself i then column i ∷ [] else []) ++ kept_columns H i.lexeme.kind i.lexeme.start
-unfolding open_columns columns kept_columns
+    → open_columns (i ∷ H) ≡ (if opens_itself i then column i ∷ [] else []) ++ staying_columns H i.lexeme.kind i.lexeme.start
+unfolding open_columns columns staying_columns
 open_columns-none limit i H h e =
     let n = number_at limit [] i H h in
     let d : i.depth ≡ depth H = depth_at limit [] i H h in
@@ -207,9 +207,9 @@ open_columns-columns : (W : List Laid) → open_columns W ≡ columns W W
 unfolding open_columns columns
 open_columns-columns W = refl
 
-kept_columns-columns : (W : List Laid) (x : Lexeme) → kept_columns W x.kind x.start ≡ filter (λ c. keeps (depth W) x.kind x.start c) (columns W W)
-unfolding kept_columns open_columns columns
-kept_columns-columns W x = refl
+staying_columns-columns : (W : List Laid) (x : Lexeme) → staying_columns W x.kind x.start ≡ filter (λ c. keeps (depth W) x.kind x.start c) (columns W W)
+unfolding staying_columns open_columns columns
+staying_columns-columns W x = refl
 
 module _ (limit : ℕ) (i : Laid) (N : List Laid) (c : Laid) (O : List Laid)
     (h : IsHistory limit (i ∷ (N ++ c ∷ O))) (v : is_value i.lexeme.kind ≡ true) (l : live limit c i.lexeme.start ≡ true)
@@ -268,23 +268,23 @@ module _ (limit : ℕ) (i : Laid) (N : List Laid) (c : Laid) (O : List Laid)
       let kk : AllKept 0 N = rw z at k in
       kept_open_nothing limit (N ++ c ∷ O) [] N (c ∷ O) refl h.2 kk
 
-  still_open_now : open_columns (i ∷ (N ++ c ∷ O)) ≡ (if nat_eq c.depth 0 && is_above (column c) c.level then column c ∷ [] else []) ++ kept_columns (N ++ c ∷ O) i.lexeme.kind i.lexeme.start
+  still_open_now : open_columns (i ∷ (N ++ c ∷ O)) ≡ (if nat_eq c.depth 0 && is_above (column c) c.level then column c ∷ [] else []) ++ staying_columns (N ++ c ∷ O) i.lexeme.kind i.lexeme.start
   still_open_now =
       let d : i.depth ≡ depth (N ++ c ∷ O) = depth_at limit [] i (N ++ c ∷ O) h in
       let o : opens_itself i ≡ false = rw (completes_not_opener i c.number v e) (and_false (nat_eq i.depth 0) (is_above (column i) i.level)) in
       let f = filter-append (λ x. keeps i.depth i.lexeme.kind i.lexeme.start x) (columns (N ++ c ∷ O) N) (columns (N ++ c ∷ O) O) in
-      rw (open_columns-columns (i ∷ (N ++ c ∷ O)), columns_self limit i (N ++ c ∷ O) h, o, now_is, kept_columns-columns (N ++ c ∷ O) i.lexeme, ← d, was_is)
+      rw (open_columns-columns (i ∷ (N ++ c ∷ O)), columns_self limit i (N ++ c ∷ O) h, o, now_is, staying_columns-columns (N ++ c ∷ O) i.lexeme, ← d, was_is)
       (rw f (arrange (nat_eq c.depth 0 && is_above (column c) c.level) (filter (λ x. keeps i.depth i.lexeme.kind i.lexeme.start x) (columns (N ++ c ∷ O) N)) (column c ∷ []) (filter (λ x. keeps i.depth i.lexeme.kind i.lexeme.start x) (columns (N ++ c ∷ O) O))
       (λ q. rw (nothing_between q) refl)))
 
 pub open_columns-some : (limit : ℕ) (i : Laid) (H : List Laid) (c : Laid) → IsHistory limit (i ∷ H) → IsCompletion limit H i.lexeme c → i.completed ≡ Some c.number
-    → open_columns (i ∷ H) ≡ (if nat_eq c.depth 0 && is_above (column c) c.level then column c ∷ [] else []) ++ kept_columns H i.lexeme.kind i.lexeme.start
+    → open_columns (i ∷ H) ≡ (if nat_eq c.depth 0 && is_above (column c) c.level then column c ∷ [] else []) ++ staying_columns H i.lexeme.kind i.lexeme.start
 open_columns-some limit i H c h s e =
     let a = candidate_split H (depth H) c s.candidate in
     go a.newer a.older a.is h a.saved a.kept (candidate_not_completed limit H (depth H) c h.2 s.candidate)
   where
     go : (N O : List Laid) → H ≡ N ++ c ∷ O → IsHistory limit (i ∷ H) → IsSaved (depth H) c → AllKept (depth H) N → is_completed H c ≡ false
-        → open_columns (i ∷ H) ≡ (if nat_eq c.depth 0 && is_above (column c) c.level then column c ∷ [] else []) ++ kept_columns H i.lexeme.kind i.lexeme.start
+        → open_columns (i ∷ H) ≡ (if nat_eq c.depth 0 && is_above (column c) c.level then column c ∷ [] else []) ++ staying_columns H i.lexeme.kind i.lexeme.start
     go N O q = subst (λ (X : List Laid). IsHistory limit (i ∷ X) → IsSaved (depth X) c → AllKept (depth X) N → is_completed X c ≡ false
-        → open_columns (i ∷ X) ≡ (if nat_eq c.depth 0 && is_above (column c) c.level then column c ∷ [] else []) ++ kept_columns X i.lexeme.kind i.lexeme.start) (sym q)
+        → open_columns (i ∷ X) ≡ (if nat_eq c.depth 0 && is_above (column c) c.level then column c ∷ [] else []) ++ staying_columns X i.lexeme.kind i.lexeme.start) (sym q)
         (λ hh ss kk pp. still_open_now limit i N c O hh s.value s.live e ss kk pp)

@@ -3,7 +3,7 @@ use Rattle.std.proofs.Common.{◌≡◌, ℕ, ◌≤◌, ◌<◌, max, not, ◌&
 use Rattle.std.specs.Prelude.{if◌then◌else◌, nat_eq}
 use Rattle.std.proofs.lemmas.Bool.{cases_Bool, and_parts, false≢true, leb-true, le-leb, lt-ltb, or_right}
 use Rattle.yaml_scan.specs.Kind.{is_value, closes_all}
-use Rattle.yaml_scan.specs.Levels.{is_opener, is_above, keeps, open_columns, kept_columns, level}
+use Rattle.yaml_scan.specs.Levels.{is_opener, is_above, keeps, open_columns, staying_columns, level}
 use Rattle.yaml_scan.specs.Falling.{AllLess, IsFalling}
 use Rattle.yaml_scan.specs.Levels.{greatest_level, greater_of}
 use Rattle.yaml_scan.specs.Laid.{Laid, column, Lexeme}
@@ -50,17 +50,17 @@ candidate_completes_nothing limit i H h k = go i.completed refl
     go None e = refl
     go (Some n) e = let r = completed_is limit H i n h.0 e in absurd (false≢true (sym (value_not_candidate i.lexeme.kind r.is.value) ∙ k))
 
-open_at_le : (O : List Laid) (x : Lexeme) → depth O ≡ 0 → AllLe x.start.column (kept_columns O x.kind x.start)
-unfolding kept_columns
+open_at_le : (O : List Laid) (x : Lexeme) → depth O ≡ 0 → AllLe x.start.column (staying_columns O x.kind x.start)
+unfolding staying_columns
 open_at_le O x z = rw z (kept_le x (open_columns O))
 
-kept_columns-all : (H : List Laid) (x : Lexeme) (ls : List ℕ) (c : ℕ) → open_columns H ≡ ls → AllLe c ls → ((l : ℕ) → l ≤ c → keeps (depth H) x.kind x.start l ≡ true) → kept_columns H x.kind x.start ≡ ls
-unfolding kept_columns
-kept_columns-all H x ls c e a k = rw e (filter_all (λ l. keeps (depth H) x.kind x.start l) c ls a k)
+staying_columns-all : (H : List Laid) (x : Lexeme) (ls : List ℕ) (c : ℕ) → open_columns H ≡ ls → AllLe c ls → ((l : ℕ) → l ≤ c → keeps (depth H) x.kind x.start l ≡ true) → staying_columns H x.kind x.start ≡ ls
+unfolding staying_columns
+staying_columns-all H x ls c e a k = rw e (filter_all (λ l. keeps (depth H) x.kind x.start l) c ls a k)
 
 -- between a candidate of depth 0 and the end of its line the open columns stay as they were at it
 pub open_columns-after : (limit : ℕ) (N : List Laid) (c : Laid) (O : List Laid) → IsHistory limit (N ++ c ∷ O) → IsSaved 0 c → AllKept 0 N → AllRight (column c) N
-    → open_columns (N ++ c ∷ O) ≡ kept_columns O c.lexeme.kind c.lexeme.start
+    → open_columns (N ++ c ∷ O) ≡ staying_columns O c.lexeme.kind c.lexeme.start
 open_columns-after limit [] c O h s k r =
     let e : c.completed ≡ None = candidate_completes_nothing limit c O h s.candidate in
     let o : opens_itself c ≡ false = opens_itself_kept' c s.candidate in
@@ -76,13 +76,13 @@ open_columns-after limit (n ∷ N) c O h s k r = go (open_columns-after limit N 
     z : depth O ≡ 0
     z = sym (depth_at limit N c O h.2) ∙ s.depth
 
-    low : AllLe (column c) (kept_columns O c.lexeme.kind c.lexeme.start)
+    low : AllLe (column c) (staying_columns O c.lexeme.kind c.lexeme.start)
     low = open_at_le O c.lexeme z
 
-    same : open_columns (N ++ c ∷ O) ≡ kept_columns O c.lexeme.kind c.lexeme.start → kept_columns (N ++ c ∷ O) n.lexeme.kind n.lexeme.start ≡ kept_columns O c.lexeme.kind c.lexeme.start
-    same ih = kept_columns-all (N ++ c ∷ O) n.lexeme (kept_columns O c.lexeme.kind c.lexeme.start) (column c) ih low (λ l b. let w = keeps_kept n l k.0 (omega (arith, r.0)) in rw d at w)
+    same : open_columns (N ++ c ∷ O) ≡ staying_columns O c.lexeme.kind c.lexeme.start → staying_columns (N ++ c ∷ O) n.lexeme.kind n.lexeme.start ≡ staying_columns O c.lexeme.kind c.lexeme.start
+    same ih = staying_columns-all (N ++ c ∷ O) n.lexeme (staying_columns O c.lexeme.kind c.lexeme.start) (column c) ih low (λ l b. let w = keeps_kept n l k.0 (omega (arith, r.0)) in rw d at w)
 
-    go : open_columns (N ++ c ∷ O) ≡ kept_columns O c.lexeme.kind c.lexeme.start → (o : Option ℕ) → n.completed ≡ o → open_columns (n ∷ (N ++ c ∷ O)) ≡ kept_columns O c.lexeme.kind c.lexeme.start
+    go : open_columns (N ++ c ∷ O) ≡ staying_columns O c.lexeme.kind c.lexeme.start → (o : Option ℕ) → n.completed ≡ o → open_columns (n ∷ (N ++ c ∷ O)) ≡ staying_columns O c.lexeme.kind c.lexeme.start
     go ih None e = open_columns-none limit n (N ++ c ∷ O) h e ∙ (rw (opens_itself_kept n k.0) (same ih))
     go ih (Some m) e =
         let f = completed_is limit (N ++ c ∷ O) n m h.0 e in
@@ -96,7 +96,7 @@ open_columns-after limit (n ∷ N) c O h s k r = go (open_columns-after limit N 
 
 -- what is open when the candidate is completed is what was open at the candidate
 open_after : (limit : ℕ) (i : Laid) (N : List Laid) (c : Laid) (O : List Laid) → IsHistory limit (i ∷ (N ++ c ∷ O)) → IsCompletion limit (N ++ c ∷ O) i.lexeme c → IsSaved 0 c → AllKept 0 N
-    → kept_columns (N ++ c ∷ O) i.lexeme.kind i.lexeme.start ≡ kept_columns O c.lexeme.kind c.lexeme.start
+    → staying_columns (N ++ c ∷ O) i.lexeme.kind i.lexeme.start ≡ staying_columns O c.lexeme.kind c.lexeme.start
 open_after limit i N c O h r s k =
     let e : i.lexeme.start.line ≡ c.lexeme.start.line = eqb-true _ _ (and_parts _ _ r.live).0 in
     let a : AllRight (column c) N = right_of limit N c O i.lexeme.start h.2 (to_start h.1) e in
@@ -104,31 +104,31 @@ open_after limit i N c O h r s k =
     let y : column c ≤ column i = x.column (sym e) in
     let z : depth O ≡ 0 = sym (depth_at limit N c O h.2) ∙ s.depth in
     let f : closes_all i.lexeme.kind ≡ false = value_not_closer i.lexeme.kind r.value in
-    kept_columns-all (N ++ c ∷ O) i.lexeme (kept_columns O c.lexeme.kind c.lexeme.start) (column c) (open_columns-after limit N c O h.2 s k a) (open_at_le O c.lexeme z)
+    staying_columns-all (N ++ c ∷ O) i.lexeme (staying_columns O c.lexeme.kind c.lexeme.start) (column c) (open_columns-after limit N c O h.2 s k a) (open_at_le O c.lexeme z)
     (λ l b. let g : (not (closes_all i.lexeme.kind) && leb l (column i)) ≡ true = rw f (le-leb _ _ (le_trans b y)) in or_right _ _ g)
 
 -- and it is all that is open
 pub open_whole : (limit : ℕ) (i : Laid) (N : List Laid) (c : Laid) (O : List Laid) → IsHistory limit (i ∷ (N ++ c ∷ O)) → IsCompletion limit (N ++ c ∷ O) i.lexeme c → IsSaved 0 c → AllKept 0 N
-    → kept_columns (N ++ c ∷ O) i.lexeme.kind i.lexeme.start ≡ open_columns (N ++ c ∷ O)
+    → staying_columns (N ++ c ∷ O) i.lexeme.kind i.lexeme.start ≡ open_columns (N ++ c ∷ O)
 open_whole limit i N c O h r s k =
     let e : i.lexeme.start.line ≡ c.lexeme.start.line = eqb-true _ _ (and_parts _ _ r.live).0 in
     let a : AllRight (column c) N = right_of limit N c O i.lexeme.start h.2 (to_start h.1) e in
     open_after limit i N c O h r s k ∙ sym (open_columns-after limit N c O h.2 s k a)
 
-pub kept_columns-whole : (limit : ℕ) (i : Laid) (H : List Laid) (c : Laid) → IsHistory limit (i ∷ H) → IsCompletion limit H i.lexeme c → c.depth ≡ 0 → kept_columns H i.lexeme.kind i.lexeme.start ≡ open_columns H
-kept_columns-whole limit i H c h r z =
+pub staying_columns-whole : (limit : ℕ) (i : Laid) (H : List Laid) (c : Laid) → IsHistory limit (i ∷ H) → IsCompletion limit H i.lexeme c → c.depth ≡ 0 → staying_columns H i.lexeme.kind i.lexeme.start ≡ open_columns H
+staying_columns-whole limit i H c h r z =
     let a = candidate_split H (depth H) c r.candidate in
     let d : depth H ≡ 0 = sym a.saved.depth ∙ z in
     let s : IsSaved 0 c = rw d at a.saved in
     let k : AllKept 0 a.newer = subst (λ (n : ℕ). AllKept n a.newer) d a.kept in
-    subst (λ (X : List Laid). IsHistory limit (i ∷ X) → IsCompletion limit X i.lexeme c → kept_columns X i.lexeme.kind i.lexeme.start ≡ open_columns X) (sym a.is) (λ hh rr. open_whole limit i a.newer c a.older hh rr s k) h r
+    subst (λ (X : List Laid). IsHistory limit (i ∷ X) → IsCompletion limit X i.lexeme c → staying_columns X i.lexeme.kind i.lexeme.start ≡ open_columns X) (sym a.is) (λ hh rr. open_whole limit i a.newer c a.older hh rr s k) h r
 
-pub kept_columns-candidate : (limit : ℕ) (i : Laid) (H N : List Laid) (c : Laid) (O : List Laid) → H ≡ N ++ c ∷ O → IsHistory limit (i ∷ H) → IsCompletion limit H i.lexeme c → IsSaved 0 c → AllKept 0 N
-    → kept_columns H i.lexeme.kind i.lexeme.start ≡ kept_columns O c.lexeme.kind c.lexeme.start
-kept_columns-candidate limit i H N c O q h r s k =
-    subst (λ (X : List Laid). IsHistory limit (i ∷ X) → IsCompletion limit X i.lexeme c → kept_columns X i.lexeme.kind i.lexeme.start ≡ kept_columns O c.lexeme.kind c.lexeme.start) (sym q) (λ hh rr. open_after limit i N c O hh rr s k) h r
+pub staying_columns-candidate : (limit : ℕ) (i : Laid) (H N : List Laid) (c : Laid) (O : List Laid) → H ≡ N ++ c ∷ O → IsHistory limit (i ∷ H) → IsCompletion limit H i.lexeme c → IsSaved 0 c → AllKept 0 N
+    → staying_columns H i.lexeme.kind i.lexeme.start ≡ staying_columns O c.lexeme.kind c.lexeme.start
+staying_columns-candidate limit i H N c O q h r s k =
+    subst (λ (X : List Laid). IsHistory limit (i ∷ X) → IsCompletion limit X i.lexeme c → staying_columns X i.lexeme.kind i.lexeme.start ≡ staying_columns O c.lexeme.kind c.lexeme.start) (sym q) (λ hh rr. open_after limit i N c O hh rr s k) h r
 
-level_at : (limit : ℕ) (N : List Laid) (c : Laid) (O : List Laid) → IsHistory limit (N ++ c ∷ O) → c.level ≡ greatest_level (kept_columns O c.lexeme.kind c.lexeme.start)
+level_at : (limit : ℕ) (N : List Laid) (c : Laid) (O : List Laid) → IsHistory limit (N ++ c ∷ O) → c.level ≡ greatest_level (staying_columns O c.lexeme.kind c.lexeme.start)
 unfolding level
 level_at limit N c O h = let r : IsHistory limit (c ∷ O) = IsHistory-older limit N (c ∷ O) h in ap (λ (x : Laid). x.level) r.0 ∙ laid_level limit O c.lexeme
 
@@ -140,9 +140,9 @@ level-candidate limit i H c h r z =
     let s : IsSaved 0 c = rw d at a.saved in
     let k : AllKept 0 a.newer = subst (λ (n : ℕ). AllKept n a.newer) d a.kept in
     let g : IsHistory limit (a.newer ++ c ∷ a.older) = subst (λ (X : List Laid). IsHistory limit X) a.is h.2 in
-    level_at limit a.newer c a.older g ∙ ap greatest_level (sym (kept_columns-candidate limit i H a.newer c a.older a.is h r s k))
+    level_at limit a.newer c a.older g ∙ ap greatest_level (sym (staying_columns-candidate limit i H a.newer c a.older a.is h r s k))
 
-pub level-candidate' : (limit : ℕ) (i : Laid) (H : List Laid) (c : Laid) → IsHistory limit (i ∷ H) → IsCompletion limit H i.lexeme c → c.depth ≡ 0 → c.level ≡ greatest_level (kept_columns H i.lexeme.kind i.lexeme.start)
+pub level-candidate' : (limit : ℕ) (i : Laid) (H : List Laid) (c : Laid) → IsHistory limit (i ∷ H) → IsCompletion limit H i.lexeme c → c.depth ≡ 0 → c.level ≡ greatest_level (staying_columns H i.lexeme.kind i.lexeme.start)
 unfolding level
 level-candidate' limit i H c h r z = level-candidate limit i H c h r z
 
@@ -173,36 +173,36 @@ falling_cons : (b : Bool) (c : ℕ) (cs : List ℕ) → IsFalling cs → (b ≡ 
 falling_cons true c cs f a = (a refl, f)
 falling_cons false c cs f a = f
 
-falling_at : (H : List Laid) (x : Lexeme) → IsFalling (open_columns H) → IsFalling (kept_columns H x.kind x.start)
-unfolding kept_columns
+falling_at : (H : List Laid) (x : Lexeme) → IsFalling (open_columns H) → IsFalling (staying_columns H x.kind x.start)
+unfolding staying_columns
 falling_at H x f = falling_filter (keeps (depth H) x.kind x.start) (open_columns H) f
 
 falling_none : IsFalling (open_columns [])
 unfolding open_columns
 falling_none = tt
 
-level_is : (limit : ℕ) (i : Laid) (H : List Laid) → IsHistory limit (i ∷ H) → i.level ≡ greatest_level (kept_columns H i.lexeme.kind i.lexeme.start)
+level_is : (limit : ℕ) (i : Laid) (H : List Laid) → IsHistory limit (i ∷ H) → i.level ≡ greatest_level (staying_columns H i.lexeme.kind i.lexeme.start)
 level_is limit i H h = level_at limit [] i H h
 
 pub open_columns-falls : (limit : ℕ) (H : List Laid) → IsHistory limit H → IsFalling (open_columns H)
 open_columns-falls limit [] h = falling_none
 open_columns-falls limit (i ∷ H) h = go (falling_at H i.lexeme (open_columns-falls limit H h.2)) i.completed refl
   where
-    go : IsFalling (kept_columns H i.lexeme.kind i.lexeme.start) → (o : Option ℕ) → i.completed ≡ o → IsFalling (open_columns (i ∷ H))
-    go f None e = rw (open_columns-none limit i H h e) (falling_cons (opens_itself i) (column i) (kept_columns H i.lexeme.kind i.lexeme.start) f
-        (λ b. let q : (is_above (column i) i.level && is_opener i) ≡ true = (and_parts _ _ b).1 in let p : is_above (column i) i.level ≡ true = (and_parts _ _ q).0 in above_less (column i) (kept_columns H i.lexeme.kind i.lexeme.start) (rw (level_is limit i H h) at p)))
+    go : IsFalling (staying_columns H i.lexeme.kind i.lexeme.start) → (o : Option ℕ) → i.completed ≡ o → IsFalling (open_columns (i ∷ H))
+    go f None e = rw (open_columns-none limit i H h e) (falling_cons (opens_itself i) (column i) (staying_columns H i.lexeme.kind i.lexeme.start) f
+        (λ b. let q : (is_above (column i) i.level && is_opener i) ≡ true = (and_parts _ _ b).1 in let p : is_above (column i) i.level ≡ true = (and_parts _ _ q).0 in above_less (column i) (staying_columns H i.lexeme.kind i.lexeme.start) (rw (level_is limit i H h) at p)))
     go f (Some n) e =
         let r = completed_is limit H i n h.0 e in
         let c = r.candidate in
         let g : i.completed ≡ Some c.number = e ∙ ap Some (sym r.number) in
-        rw (open_columns-some limit i H c h r.is g) (falling_cons (nat_eq c.depth 0 && is_above (column c) c.level) (column c) (kept_columns H i.lexeme.kind i.lexeme.start) f (below c r.is))
+        rw (open_columns-some limit i H c h r.is g) (falling_cons (nat_eq c.depth 0 && is_above (column c) c.level) (column c) (staying_columns H i.lexeme.kind i.lexeme.start) f (below c r.is))
       where
-        below : (c : Laid) → IsCompletion limit H i.lexeme c → (nat_eq c.depth 0 && is_above (column c) c.level) ≡ true → AllLess (column c) (kept_columns H i.lexeme.kind i.lexeme.start)
+        below : (c : Laid) → IsCompletion limit H i.lexeme c → (nat_eq c.depth 0 && is_above (column c) c.level) ≡ true → AllLess (column c) (staying_columns H i.lexeme.kind i.lexeme.start)
         below c s b =
             let p = and_parts (nat_eq c.depth 0) (is_above (column c) c.level) b in
-            above_less (column c) (kept_columns H i.lexeme.kind i.lexeme.start) (subst (λ (o : Option ℕ). is_above (column c) o ≡ true) (level_eq c s (eqb-true _ _ p.0)) p.1)
+            above_less (column c) (staying_columns H i.lexeme.kind i.lexeme.start) (subst (λ (o : Option ℕ). is_above (column c) o ≡ true) (level_eq c s (eqb-true _ _ p.0)) p.1)
           where
-            level_eq : (c : Laid) → IsCompletion limit H i.lexeme c → c.depth ≡ 0 → c.level ≡ greatest_level (kept_columns H i.lexeme.kind i.lexeme.start)
+            level_eq : (c : Laid) → IsCompletion limit H i.lexeme c → c.depth ≡ 0 → c.level ≡ greatest_level (staying_columns H i.lexeme.kind i.lexeme.start)
             level_eq c s z = level-candidate' limit i H c h s z
 
 -- so the level is the first of them

@@ -23,7 +23,7 @@ use Rattle.yaml_scan.specs.Decoded.{decoded_input}
 use Rattle.yaml_scan.specs.inside.Scanning.{IsOpen, history, course_of, input_of}
 use Rattle.yaml_scan.specs.inside.Ready.{IsIn, IsShown, IsSettled, IsStopped, IsShort, IsEnded, Pops, course_in, fault_in}
 use Rattle.yaml_scan.specs.Parser.{Parser, course_by}
-use Rattle.yaml_scan.specs.ParserCalls.{scan_result, IsThere, IsRefusedEarly, input_read, course_read, answered, after_call}
+use Rattle.yaml_scan.specs.ParserCalls.{scan_result, IsThere, IsRefusedAtStart, input_read, course_read, answered, after_call}
 use Rattle.yaml_scan.specs.Headline.{Calls, WantsMemory}
 use Rattle.yaml_scan.specs.inside.Shown.{Shows}
 use Rattle.yaml_scan.specs.ParserCalls.{token_shown, token_or_empty}
@@ -429,10 +429,10 @@ pub not_begun : (limit : ℕ) (input : Input) → starts_near input.source.size 
 unfolding course
 not_begun limit input e = rw e refl
 
-pub wants_late : (p q : Parser) → WantsMemory decoded_input p q → IsRefusedEarly (input_read p) → ⊥
+pub wants_late : (p q : Parser) → WantsMemory decoded_input p q → IsRefusedAtStart (input_read p) → ⊥
 unfolding course_by
 wants_late p q w e = false≢true (sym (not_begun p.limit (input_read p) e.1) ∙ w.in_utf8 e.0)
 
-pub early : (call : Call) (p : Parser) (a : Answer) (q : Parser) → Calls decoded_input call p a q → IsRefusedEarly (input_read p) → (a ≡ answered p call) × (q ≡ after_call p call)
-early call p a q (inl r) e = r
-early call p a q (inr r) e = absurd (wants_late p q r.1 e)
+pub at_start : (call : Call) (p : Parser) (a : Answer) (q : Parser) → Calls decoded_input call p a q → IsRefusedAtStart (input_read p) → (a ≡ answered p call) × (q ≡ after_call p call)
+at_start call p a q (inl r) e = r
+at_start call p a q (inr r) e = absurd (wants_late p q r.1 e)

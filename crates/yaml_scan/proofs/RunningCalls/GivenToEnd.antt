@@ -21,7 +21,7 @@ use Rattle.yaml_scan.specs.Laid.{Laid}
 use Rattle.yaml_scan.specs.Session.{is_last}
 use Rattle.yaml_scan.specs.Sessions.{settled_tokens}
 use Rattle.yaml_scan.specs.Settled.{before, tokens_of}
-use Rattle.yaml_scan.specs.Sink.{IsGivenAll, IsGivenFront}
+use Rattle.yaml_scan.specs.Sink.{IsGivenAll, IsGivenBeginning}
 use Rattle.yaml_scan.specs.Token.{yaml_token_t, type_of}
 use Rattle.yaml_scan.specs.TokenTypes.{is_last_type}
 use Rattle.yaml_scan.specs.Words.{HasWords, HaveWords}
@@ -204,13 +204,13 @@ module _ (limit : ℕ) (setting : yaml_encoding_t) (input : List ℕ) (s : Scann
       reads = inl (sym (ap (λ (y : List yaml_token_t). y ++ w.0) none_taken) ∙ sym w.1 ∙ told_then, sym w.2 ∙ fault_then);
     }
 
-    pub front_given : IsCutOff s took → IsGivenFront took limit setting input
-    front_given c = record {
-      tokens = c.front;
+    pub beginning_given : IsCutOff s took → IsGivenBeginning took limit setting input
+    beginning_given c = record {
+      tokens = c.handed;
       given = c.given;
       refused = c.next;
-      beginning = subst (λ (y : List yaml_token_t). Begins (c.front ++ c.next ∷ []) y) told_then
-          (subst (λ (y : List yaml_token_t). Begins (y ++ (c.front ++ c.next ∷ [])) (told_all s)) none_taken c.begins);
+      beginning = subst (λ (y : List yaml_token_t). Begins (c.handed ++ c.next ∷ []) y) told_then
+          (subst (λ (y : List yaml_token_t). Begins (y ++ (c.handed ++ c.next ∷ [])) (told_all s)) none_taken c.begins);
     }
 
     module _ (m : Scanner) (tokens : List yaml_token_t) (g : HasGiven s m tokens) (u : length (before m.limit (history m)) ≤ m.taken) where
@@ -252,15 +252,15 @@ module _ (limit : ℕ) (setting : yaml_encoding_t) (input : List ℕ) (s : Scann
       reads_then f (inl e) = inr (are_settled, ap Some e)
       reads_then f (inr i) = inl (all_then f i)
 
-    pub stopped_then : (kept : Option yaml_fault_t) (stop : stop_t) (refuses : Type 0) → StopsGiving s kept stop took refuses
-        → IsGivenAll took limit setting input (Some (fault_at stop kept)) ⊎ ((stop ≡ SINK) × IsGivenFront took limit setting input × refuses)
-    stopped_then kept stop refuses (inl w) = let g = w.2 in let i = w.3 in inl (record { tokens = w.0; given = w.4; reads = reads_then w.1 w.0 g i.unsettled (fault_at stop kept) i.fault })
-    stopped_then kept stop refuses (inr w) = inr (w.0, front_given w.1, w.2)
+    pub stopped_then : (stored : Option yaml_fault_t) (stop : stop_t) (refuses : Type 0) → StopsGiving s stored stop took refuses
+        → IsGivenAll took limit setting input (Some (fault_at stop stored)) ⊎ ((stop ≡ SINK) × IsGivenBeginning took limit setting input × refuses)
+    stopped_then stored stop refuses (inl w) = let g = w.2 in let i = w.3 in inl (record { tokens = w.0; given = w.4; reads = reads_then w.1 w.0 g i.unsettled (fault_at stop stored) i.fault })
+    stopped_then stored stop refuses (inr w) = inr (w.0, beginning_given w.1, w.2)
 
     -- the rest was given, or it has stopped
-    pub finished : (kept : Option yaml_fault_t) (refuses : Type 0) (out : Result (Unit {0}) stop_t) → MatchResult out (λ _. GaveRest s took) (λ stop. StopsGiving s kept stop took refuses) → GivesAll took refuses limit setting input kept out
-    finished kept refuses (Ok x) w = all_given w
-    finished kept refuses (Err stop) w = stopped_then kept stop refuses w
+    pub finished : (stored : Option yaml_fault_t) (refuses : Type 0) (out : Result (Unit {0}) stop_t) → MatchResult out (λ _. GaveRest s took) (λ stop. StopsGiving s stored stop took refuses) → GivesAll took refuses limit setting input stored out
+    finished stored refuses (Ok x) w = all_given w
+    finished stored refuses (Err stop) w = stopped_then stored stop refuses w
 
 -- no step was made
 begins_none : (xs : List Token) → length xs ≤ 0 → xs ≡ []
@@ -286,16 +286,16 @@ none_made setting input s t f z (inr k) =
     inl (ap (λ (y : List Token). map (handed_out (decoded_input setting input).encoding) y) (sym e), sym k.fault)
 
 -- why it gives no more: the sink refused a token, which is no fault, or there is a fault
-module _ (took : List yaml_token_t → Type 0) (refuses : Type 0) (n limit : ℕ) (l : n ≡ limit) (setting : yaml_encoding_t) (input : List ℕ) (kept : Option yaml_fault_t) (stop : stop_t) where
-  no_sink_fault : stop ≡ SINK → IsGivenAll took n setting input (Some (fault_at stop kept)) → ⊥
+module _ (took : List yaml_token_t → Type 0) (refuses : Type 0) (n limit : ℕ) (l : n ≡ limit) (setting : yaml_encoding_t) (input : List ℕ) (stored : Option yaml_fault_t) (stop : stop_t) where
+  no_sink_fault : stop ≡ SINK → IsGivenAll took n setting input (Some (fault_at stop stored)) → ⊥
   no_sink_fault e w =
-      let v : IsGivenAll took n setting input (Some no_fault) = subst (λ (x : stop_t). IsGivenAll took n setting input (Some (fault_at x kept))) e w in
+      let v : IsGivenAll took n setting input (Some no_fault) = subst (λ (x : stop_t). IsGivenAll took n setting input (Some (fault_at x stored))) e w in
       (reads_have_lines n setting input v.tokens (Some no_fault) v.reads).1
 
-  pub cut_by_sink : stop ≡ SINK → GivesAll took refuses n setting input kept (Err stop) → IsGivenFront took limit setting input × refuses
+  pub cut_by_sink : stop ≡ SINK → GivesAll took refuses n setting input stored (Err stop) → IsGivenBeginning took limit setting input × refuses
   cut_by_sink e (inl w) = absurd (no_sink_fault e w)
-  cut_by_sink e (inr w) = (subst (λ (x : ℕ). IsGivenFront took x setting input) l w.1, w.2)
+  cut_by_sink e (inr w) = (subst (λ (x : ℕ). IsGivenBeginning took x setting input) l w.1, w.2)
 
-  pub ended_by_fault : (f : Fault) → f ≡ fault_at stop kept → (stop ≡ SINK → ⊥) → GivesAll took refuses n setting input kept (Err stop) → IsGivenAll took limit setting input (Some f)
-  ended_by_fault f e m (inl w) = subst (λ (x : Fault). IsGivenAll took limit setting input (Some x)) (sym e) (subst (λ (x : ℕ). IsGivenAll took x setting input (Some (fault_at stop kept))) l w)
+  pub ended_by_fault : (f : Fault) → f ≡ fault_at stop stored → (stop ≡ SINK → ⊥) → GivesAll took refuses n setting input stored (Err stop) → IsGivenAll took limit setting input (Some f)
+  ended_by_fault f e m (inl w) = subst (λ (x : Fault). IsGivenAll took limit setting input (Some x)) (sym e) (subst (λ (x : ℕ). IsGivenAll took x setting input (Some (fault_at stop stored))) l w)
   ended_by_fault f e m (inr w) = absurd (m w.0)

@@ -71,10 +71,10 @@ more_given s t u xs ys a b = record {
 -- the first of the next tokens, and the one that was refused
 pub cut_of : (s : Scanner) (took : List yaml_token_t → Type 0) (tokens : List yaml_token_t) → Begins (told_taken s ++ tokens) (told_all s) → IsCut took tokens → IsCutOff s took
 cut_of s took tokens b c =
-    let f : List yaml_token_t = c.front ++ c.next ∷ [] in
+    let f : List yaml_token_t = c.handed ++ c.next ∷ [] in
     let r : List yaml_token_t = c.begins.rest in
     record {
-      front = c.front;
+      handed = c.handed;
       next = c.next;
       begins = record {
         rest = r ++ b.rest;
@@ -88,22 +88,22 @@ cut_of s took tokens b c =
 module _ (s t : Scanner) (xs : List yaml_token_t) (g : HasGiven s t xs) (took took' : List yaml_token_t → Type 0) (m : (ys : List yaml_token_t) → took' ys → took (xs ++ ys)) where
   pub cut_on : IsCutOff t took' → IsCutOff s took
   cut_on c =
-      let f : List yaml_token_t = c.front ++ c.next ∷ [] in
+      let f : List yaml_token_t = c.handed ++ c.next ∷ [] in
       record {
-        front = xs ++ c.front;
+        handed = xs ++ c.handed;
         next = c.next;
         begins = record {
           rest = c.begins.rest;
           is = sym (told_as s t g.text g.refusal g.limit) ∙ c.begins.is
               ∙ ap (λ (z : List yaml_token_t). (z ++ f) ++ c.begins.rest) g.given
-              ∙ ap (λ (z : List yaml_token_t). z ++ c.begins.rest) (append_assoc (told_taken s) xs f ∙ ap (λ (z : List yaml_token_t). told_taken s ++ z) (sym (append_assoc xs c.front (c.next ∷ []))));
+              ∙ ap (λ (z : List yaml_token_t). z ++ c.begins.rest) (append_assoc (told_taken s) xs f ∙ ap (λ (z : List yaml_token_t). told_taken s ++ z) (sym (append_assoc xs c.handed (c.next ∷ []))));
         };
-        given = m c.front c.given;
+        given = m c.handed c.given;
       }
 
-  pub stops_on : (kept : Option yaml_fault_t) (stop : stop_t) (refuses : Type 0) → StopsGiving t kept stop took' refuses → StopsGiving s kept stop took refuses
-  stops_on kept stop refuses (inl w) = inl (xs ++ w.0, w.1, more_given s t w.1 xs w.0 g w.2, w.3, m w.0 w.4)
-  stops_on kept stop refuses (inr w) = inr (w.0, cut_on w.1, w.2)
+  pub stops_on : (stored : Option yaml_fault_t) (stop : stop_t) (refuses : Type 0) → StopsGiving t stored stop took' refuses → StopsGiving s stored stop took refuses
+  stops_on stored stop refuses (inl w) = inl (xs ++ w.0, w.1, more_given s t w.1 xs w.0 g w.2, w.3, m w.0 w.4)
+  stops_on stored stop refuses (inr w) = inr (w.0, cut_on w.1, w.2)
 
 -- there are only so many steps
 pub steps_within : (s t : Scanner) (xs : List yaml_token_t) → HasGiven s t xs → t.made ≤ length (course_of s).read + 1
@@ -167,8 +167,8 @@ module _ (m : Scanner) (zs : List group_t) (r : RunsWith m zs) (o : IsOpen m) (t
 
   tokens_are : tokens ≡ map (handed_out m.text.encoding) (drop m.taken made_all)
   tokens_are =
-      let q : IsQueue m.text.encoding 0 m.layout.queue.front zs (drop m.taken made_all) = subst (λ (n : ℕ). IsQueue m.text.encoding n m.layout.queue.front zs (drop m.taken made_all)) a.early r.holds.queue.tokens in
-      a.tokens_are ∙ sym (queue_told m.text.encoding m.layout.queue.front zs (drop m.taken made_all) q)
+      let q : IsQueue m.text.encoding 0 m.layout.queue.early_mark zs (drop m.taken made_all) = subst (λ (n : ℕ). IsQueue m.text.encoding n m.layout.queue.early_mark zs (drop m.taken made_all)) a.early r.holds.queue.tokens in
+      a.tokens_are ∙ sym (queue_told m.text.encoding m.layout.queue.early_mark zs (drop m.taken made_all) q)
 
   taken_are : take m.taken (all_in m) ≡ take m.taken made_all
   taken_are = ap (λ (z : List Token). take m.taken z) begins_all.is ∙ take-append-le m.taken made_all begins_all.rest few
@@ -327,10 +327,10 @@ module _ (s : Scanner) (r : IsRunning s) (o : IsOpen s) (l : length (before s.li
     cut_then : (tokens : List yaml_token_t) (took : List yaml_token_t → Type 0) → AllSettled m zs tokens → IsCut took tokens → IsCutOff s took
     cut_then tokens took a c = let p = laid_then in let q = p.2 in
         let b = cut_settled m zs p.0 open_then tokens a took c in record {
-          front = b.front;
+          handed = b.handed;
           next = b.next;
-          begins = subst (λ (z : List yaml_token_t). Begins (z ++ (b.front ++ b.next ∷ [])) (told_all s)) (taken_is s m q.text q.refusal q.limit s.taken q.taken)
-              (subst (λ (z : List yaml_token_t). Begins (told_taken m ++ (b.front ++ b.next ∷ [])) z) (told_as s m q.text q.refusal q.limit) b.begins);
+          begins = subst (λ (z : List yaml_token_t). Begins (z ++ (b.handed ++ b.next ∷ [])) (told_all s)) (taken_is s m q.text q.refusal q.limit s.taken q.taken)
+              (subst (λ (z : List yaml_token_t). Begins (told_taken m ++ (b.handed ++ b.next ∷ [])) z) (told_as s m q.text q.refusal q.limit) b.begins);
           given = b.given;
         }
 

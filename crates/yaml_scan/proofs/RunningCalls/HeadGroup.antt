@@ -26,7 +26,7 @@ use Rattle.yaml_scan.specs.inside.Holding.{HoldsQueue}
 use Rattle.yaml_scan.specs.inside.Queue.{IsQueue, leads}
 use Rattle.yaml_scan.specs.inside.Scanning.{IsOpen, IsRunning, course_of, groups_in, history}
 use Rattle.yaml_scan.specs.inside.Sent.{Drains, IsReadyGroup}
-use Rattle.yaml_scan.specs.inside.Slots.{Held, step_of}
+use Rattle.yaml_scan.specs.inside.Slots.{Held, held_step}
 use Rattle.yaml_scan.proofs.RunningQueue.CandidateGroup.{count, leads_made, offline_split, split_made, stands, taken_count}
 use Rattle.yaml_scan.proofs.RunningQueue.GroupTokens.{group_no_end, told_count}
 use Rattle.yaml_scan.proofs.RunningQueue.HeadIsNext.{here, lowest_open, none_open}
@@ -77,9 +77,9 @@ module _ (s : Scanner) (r : IsRunning s) (y : group_t) (g : IsReadyGroup s y) wh
   abbrev n : ℕ
   n = length (group_tokens y)
 
-  queue_is : IsQueue e 0 s.layout.queue.front (y ∷ g.others) (drop s.taken (offline H))
-  queue_is = subst (λ (ys : List group_t). IsQueue e 0 s.layout.queue.front ys (drop s.taken (offline H))) g.head
-      (subst (λ (k : ℕ). IsQueue e k s.layout.queue.front (groups_in s) (drop s.taken (offline H))) g.early r.holds.queue.tokens)
+  queue_is : IsQueue e 0 s.layout.queue.early_mark (y ∷ g.others) (drop s.taken (offline H))
+  queue_is = subst (λ (ys : List group_t). IsQueue e 0 s.layout.queue.early_mark ys (drop s.taken (offline H))) g.head
+      (subst (λ (k : ℕ). IsQueue e k s.layout.queue.early_mark (groups_in s) (drop s.taken (offline H))) g.early r.holds.queue.tokens)
 
   abbrev first : Token
   first = queue_is.0
@@ -88,7 +88,7 @@ module _ (s : Scanner) (r : IsRunning s) (y : group_t) (g : IsReadyGroup s y) wh
   rest = queue_is.1
 
   parts : drop s.taken (offline H) ≡ leads y ++ first ∷ rest
-  parts = queue_is.2 ∙ ap (λ (z : List Token). z ++ first ∷ rest) (none_early e s.layout.queue.front g.others y)
+  parts = queue_is.2 ∙ ap (λ (z : List Token). z ++ first ∷ rest) (none_early e s.layout.queue.early_mark g.others y)
 
   long : n ≡ length (leads y) + 1
   long = let a = length-append (told_leads (leads y)) (token_of y.token ∷ []) in let b = told_count (leads y) in omega arith
@@ -109,7 +109,7 @@ module _ (s : Scanner) (r : IsRunning s) (y : group_t) (g : IsReadyGroup s y) wh
       let q : leads y ++ first ∷ rest ≡ p.whole ++ (p.ends ++ OfLexeme c.lexeme ∷ o.0) =
       sym parts ∙ ap (λ (z : List Token). drop s.taken z) o.1 ∙ drop-append-le s.taken (up_to H (Some c)) (OfLexeme c.lexeme ∷ o.0) l
       ∙ ap (λ (z : List Token). z ++ OfLexeme c.lexeme ∷ o.0) p.front_is ∙ append_assoc p.whole p.ends (OfLexeme c.lexeme ∷ o.0) in
-      let u = taken_count H s.taken e s.layout.queue.early s.layout.queue.front (groups_in s) r.holds.queue.tokens s.layout.queue.done r.holds.queue.count in
+      let u = taken_count H s.taken e s.layout.queue.early s.layout.queue.early_mark (groups_in s) r.holds.queue.tokens s.layout.queue.done r.holds.queue.count in
       let w = p.place in
       let f = p.far in
       let m = long in
@@ -131,7 +131,7 @@ module _ (s : Scanner) (r : IsRunning s) (y : group_t) (g : IsReadyGroup s y) wh
       go l m (inr o) = let x = none_open s.limit H r.holds.is_history (length (before s.limit H)) (omega arith) o m in omega arith
       go l m (inl o) =
           let c = here s.limit H r.holds.is_history (length (before s.limit H)) (omega arith) o in
-          let a : s.slots.awaited ≡ c.laid.number + 2 = awaited_is s.limit H s.slots s.allowed r.holds.keys ∙ ap step_of o.told ∙ ap (λ (z : Held). z.step) c.told in
+          let a : s.slots.awaited ≡ c.laid.number + 2 = awaited_is s.limit H s.slots s.allowed r.holds.keys ∙ ap held_step o.told ∙ ap (λ (z : Held). z.step) c.told in
           let x = lowest_open s.limit H r.holds.is_history (length (before s.limit H)) (omega arith) o
           (λ q. let w = candidate_after o.at c.laid c.is (λ z. g.awaited (a ∙ z)) (let t = r.holds.taken in omega arith) in absurd (omega arith)) m in
           omega arith
@@ -202,7 +202,7 @@ module _ (s : Scanner) (r : IsRunning s) (y : group_t) (g : IsReadyGroup s y) wh
       ∙ drop_at (leads y ++ first ∷ []) rest n (omega arith)
 
   -- the group is taken
-  module _ (q : queue_t) (E : q.early ≡ s.layout.queue.early) (F : q.front ≡ s.layout.queue.front) (D : q.done ≡ s.layout.queue.done + 1) (Y : q.groups.items ≡ g.others) (k : ℕ) (K : k ≡ n) where
+  module _ (q : queue_t) (E : q.early ≡ s.layout.queue.early) (F : q.early_mark ≡ s.layout.queue.early_mark) (D : q.done ≡ s.layout.queue.done + 1) (Y : q.groups.items ≡ g.others) (k : ℕ) (K : k ≡ n) where
     abbrev u : Scanner
     u = set_queue s q (s.taken + k)
 

@@ -168,10 +168,10 @@ module _ (i : Inside) (v : Sound i) (e : i.session.peeked ≡ true) where
   first_is : (x : yaml_token_t) → IsFirst s.text.encoding (drop s.taken (offline (history s))) x → x ≡ token_shown (parser_of i)
   first_is x f = head_shown i.setting i.input.now s (v.peeked e).1 x f i.session.peeked i.session.over (fault_in i.session.failed i.state.fault) e (parser_of i) refl
 
-  pub lead_shown : 0 < length (pending s.layout.queue.early s.layout.queue.front s.layout.queue.groups.items) → token_of i.lead ≡ token_shown (parser_of i)
+  pub lead_shown : 0 < length (pending s.layout.queue.early s.layout.queue.early_mark s.layout.queue.groups.items) → token_of i.lead ≡ token_shown (parser_of i)
   lead_shown l = let k = (v.peeked e).1 in first_is (token_of i.lead) (lead_first s.text.encoding s.layout.queue (drop s.taken (offline (history s))) (token_of i.lead) k.stands.runs.holds.queue.tokens (v.lead e) l)
 
-  pub group_shown : (y : group_t) → y ≡ get_or s.layout.queue.groups.items 0 y → length (pending s.layout.queue.early s.layout.queue.front s.layout.queue.groups.items) ≤ 0 → token_of y.token ≡ token_shown (parser_of i)
+  pub group_shown : (y : group_t) → y ≡ get_or s.layout.queue.groups.items 0 y → length (pending s.layout.queue.early s.layout.queue.early_mark s.layout.queue.groups.items) ≤ 0 → token_of y.token ≡ token_shown (parser_of i)
   group_shown y d l = let k = (v.peeked e).1 in first_is (token_of y.token) (token_first s.text.encoding s.layout.queue (drop s.taken (offline (history s))) y k.stands.runs.holds.queue.tokens shown_some d l)
 
 pub over_is : (p : Parser) (k : yaml_kept_parser_t) → IsKept p k → k.session.over ≡ p.session.over

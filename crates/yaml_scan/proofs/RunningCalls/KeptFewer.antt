@@ -78,13 +78,13 @@ first_made [] a l = absurd (omega arith)
 first_made (x ∷ xs) a l = (x, xs, refl, a.0)
 
 -- the first one that is handed out before the token of the first group
-pub lead_silent : (e : yaml_encoding_t) (q : queue_t) → 0 < length (pending q.early q.front q.groups.items)
-    → (x : Token) × (rest : List Token) × (pending q.early q.front q.groups.items ≡ x ∷ rest) × (said_len (handed_out e x).token_data ≡ 0)
-lead_silent e q l = let f = first_made (pending q.early q.front q.groups.items) (pending_made q.early q.front q.groups.items) l in (f.0, f.1, f.2, silent e f.0 f.3)
+pub lead_silent : (e : yaml_encoding_t) (q : queue_t) → 0 < length (pending q.early q.early_mark q.groups.items)
+    → (x : Token) × (rest : List Token) × (pending q.early q.early_mark q.groups.items ≡ x ∷ rest) × (said_len (handed_out e x).token_data ≡ 0)
+lead_silent e q l = let f = first_made (pending q.early q.early_mark q.groups.items) (pending_made q.early q.early_mark q.groups.items) l in (f.0, f.1, f.2, silent e f.0 f.3)
 
 some_token : (p : List Token) (x y : Token) (xs ys : List Token) → p ≡ x ∷ xs → p ≡ y ∷ ys → x ≡ y
 some_token p x y xs ys a b = let e : x ∷ xs ≡ y ∷ ys = sym a ∙ b in cc
 
 -- and it is the only one
-pub only_first : (e : yaml_encoding_t) (q : queue_t) (x : Token) (rest : List Token) → pending q.early q.front q.groups.items ≡ x ∷ rest → IsLead e q (handed_out e x)
-only_first e q x rest p y more r = ap (λ (z : Token). handed_out e z) (some_token (pending q.early q.front q.groups.items) x y rest more p r)
+pub only_first : (e : yaml_encoding_t) (q : queue_t) (x : Token) (rest : List Token) → pending q.early q.early_mark q.groups.items ≡ x ∷ rest → IsLead e q (handed_out e x)
+only_first e q x rest p y more r = ap (λ (z : Token). handed_out e z) (some_token (pending q.early q.early_mark q.groups.items) x y rest more p r)

@@ -42,7 +42,7 @@ module _ (s : Scanner) (r : IsRunning s) (l : s.taken < length (before s.limit (
   pub groups_some : 0 < length s.layout.queue.groups.items
   groups_some =
       let b = length-begins _ _ (before-offline s.limit (history s) r.holds.is_history) in
-      let c = groups_count s.text.encoding s.layout.queue.early s.layout.queue.front s.layout.queue.groups.items (drop s.taken (offline (history s))) r.holds.queue.tokens in
+      let c = groups_count s.text.encoding s.layout.queue.early s.layout.queue.early_mark s.layout.queue.groups.items (drop s.taken (offline (history s))) r.holds.queue.tokens in
       let d = drop_count (offline (history s)) s.taken (offline_whole (history s)) (omega arith) in
       omega arith
 
@@ -65,7 +65,7 @@ module _ (s : Scanner) (r : IsRunning s) (l : s.taken < length (before s.limit (
 
     queue_held : HoldsQueue s.text.encoding (s.taken + 1) (history s) q q.groups.items
     queue_held = let w = r.holds.queue in record {
-      tokens = subst (λ (z : List Token). IsQueue s.text.encoding q.early q.front q.groups.items z) (sym parts.1) taken_from.queue;
+      tokens = subst (λ (z : List Token). IsQueue s.text.encoding q.early q.early_mark q.groups.items z) (sym parts.1) taken_from.queue;
       count = (let a = taken_from.count in let b = w.count in omega arith);
       early = λ z. (let a = taken_from.early in let b = w.early z in omega arith);
     }

@@ -109,7 +109,7 @@ begins_after xs ys zs t b = record {
 
 -- what was given before stays given
 pub cut_longer : (took : List yaml_token_t → Type 0) (xs ys : List yaml_token_t) → IsCut took xs → IsCut took (xs ++ ys)
-cut_longer took xs ys c = record { front = c.front; next = c.next; begins = begins_longer (c.front ++ c.next ∷ []) xs ys c.begins; given = c.given }
+cut_longer took xs ys c = record { handed = c.handed; next = c.next; begins = begins_longer (c.handed ++ c.next ∷ []) xs ys c.begins; given = c.given }
 
 pub cut_begins : (took : List yaml_token_t → Type 0) (xs ys : List yaml_token_t) → Begins xs ys → IsCut took xs → IsCut took ys
 cut_begins took xs ys b c = rw b.is (cut_longer took xs b.rest c)
@@ -119,7 +119,7 @@ gives_longer took refuses xs ys stop g = (g.0, cut_longer took xs ys g.1, g.2)
 
 module _ {S : Type 0} (took : S → List yaml_token_t → S → Type 0) (more : (a b c : S) (xs ys : List yaml_token_t) → took a xs b → took b ys c → took a (xs ++ ys) c) (a b c : S) where
   pub cut_after : (xs ys : List yaml_token_t) → took a xs b → IsCut (λ ts. took b ts c) ys → IsCut (λ ts. took a ts c) (xs ++ ys)
-  cut_after xs ys t q = record { front = xs ++ q.front; next = q.next; begins = begins_after xs q.front ys q.next q.begins; given = more a b c xs q.front t q.given }
+  cut_after xs ys t q = record { handed = xs ++ q.handed; next = q.next; begins = begins_after xs q.handed ys q.next q.begins; given = more a b c xs q.handed t q.given }
 
   pub gives_after : (refuses : Type 0) (xs ys : List yaml_token_t) (o : Result (Unit {0}) stop_t) → took a xs b → Gives (λ ts. took b ts c) refuses ys o → Gives (λ ts. took a ts c) refuses (xs ++ ys) o
   gives_after refuses xs ys (Ok x) t g = more a b c xs ys t g

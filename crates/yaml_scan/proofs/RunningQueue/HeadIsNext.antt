@@ -3,7 +3,7 @@ use Rattle.std.proofs.Common.{◌≡◌, ℕ, ◌+◌, ◌-◌, ◌≤◌, ◌<�
 use Rattle.std.specs.Prelude.{◌⊎◌}
 use Rattle.std.proofs.lemmas.Bool.{cases_eq, cases_lt}
 use Rattle.yaml_scan.specs.declared.groups.group_t.{group_t}
-use Rattle.yaml_scan.specs.inside.Slots.{Held, held, held_of, outer_to, step_of, lowest}
+use Rattle.yaml_scan.specs.inside.Slots.{Held, held, held_of, outer_to, held_step, lowest}
 use Rattle.yaml_scan.specs.inside.Queue.{begins_with_end, pending}
 use Rattle.yaml_scan.specs.inside.Scanner.{Scanner}
 use Rattle.yaml_scan.specs.inside.Scanning.{HoldsWith}
@@ -56,7 +56,7 @@ module _ (limit : ℕ) (H : List Laid) (h : IsHistory limit H) (t : ℕ) (l : t 
 
   -- where a candidate that is held is told to be at the head if it is
   settled_test : (d : ℕ) (ends : Bool) → ((k : ℕ) (c : Laid) → candidate H k ≡ Some c → t ≤ length (up_to H (Some c)) → (eqb (c.number + 2) (d + 1) && not ends) ≡ eqb t (length (up_to H (Some c))))
-      → (e : Bool) → e ≡ eqb (length (offline H) - t) 0 → (w : ℕ) → w ≡ step_of (lowest (outer_to limit H (depth H + 1)))
+      → (e : Bool) → e ≡ eqb (length (offline H) - t) 0 → (w : ℕ) → w ≡ held_step (lowest (outer_to limit H (depth H + 1)))
       → (not e && not (eqb w (d + 1) && not ends)) ≡ ltb t (length (before limit H))
   settled_test d ends W e E w Q = elim (cases_eq (length (offline H) - t) 0) [
     | inl z ↦ (let f : e ≡ true = E ∙ (rw z refl) in let s = shorter in rw f (sym (le-ltb t (length (before limit H)) (omega arith))))
@@ -70,10 +70,10 @@ module _ (limit : ℕ) (H : List Laid) (h : IsHistory limit H) (t : ℕ) (l : t 
       zero_not = ne_eqb _ _ (λ q. absurd (omega arith))
 
       go : t < length (offline H) → IsLowest limit H (depth H + 1) ⊎ IsNone limit H (depth H + 1) → not (eqb w (d + 1) && not ends) ≡ ltb t (length (before limit H))
-      go m (inr r) = let v : w ≡ 0 = Q ∙ ap step_of r.told in rw (v, zero_not) (sym (lt-ltb _ _ (none_open r m)))
+      go m (inr r) = let v : w ≡ 0 = Q ∙ ap held_step r.told in rw (v, zero_not) (sym (lt-ltb _ _ (none_open r m)))
       go m (inl r) =
           let g = here r in
-          let v : w ≡ g.laid.number + 2 = Q ∙ ap step_of r.told ∙ ap (λ (z : Held). z.step) g.told in
+          let v : w ≡ g.laid.number + 2 = Q ∙ ap held_step r.told ∙ ap (λ (z : Held). z.step) g.told in
           let n = not_settled limit H r.at g.laid h g.is g.still in
           let u : (eqb w (d + 1) && not ends) ≡ eqb t (length (up_to H (Some g.laid))) = rw v (W r.at g.laid g.is (omega arith)) in
           rw u (elim (cases_eq t (length (up_to H (Some g.laid)))) [
@@ -83,8 +83,8 @@ module _ (limit : ℕ) (H : List Laid) (h : IsHistory limit H) (t : ℕ) (l : t 
 
 -- a scanner tests whether its queue has a group, for which no candidate is awaited
 pub head_tested : (H : List Laid) (n : ℕ) (s : Scanner) (ys : List group_t) → HoldsWith H n s ys → (none : Bool) → none ≡ eqb (length ys) 0
-    → (not none && not (eqb s.slots.awaited (s.layout.queue.done + 1) && not (begins_with_end (pending s.layout.queue.early s.layout.queue.front ys)))) ≡ ltb s.taken (length (before s.limit H))
+    → (not none && not (eqb s.slots.awaited (s.layout.queue.done + 1) && not (begins_with_end (pending s.layout.queue.early s.layout.queue.early_mark ys)))) ≡ ltb s.taken (length (before s.limit H))
 head_tested H n s ys h none e = let q = s.layout.queue in
-    settled_test s.limit H h.is_history s.taken h.taken q.done (begins_with_end (pending q.early q.front ys))
-    (λ k x e l. head_awaited s.limit H k x s.taken s.text.encoding q.early q.front ys q.done h.is_history h.queue.tokens h.queue.count e l)
-    none (e ∙ none_left H s.taken s.text.encoding q.early q.front ys h.queue.tokens) s.slots.awaited (awaited_is s.limit H s.slots s.allowed h.keys)
+    settled_test s.limit H h.is_history s.taken h.taken q.done (begins_with_end (pending q.early q.early_mark ys))
+    (λ k x e l. head_awaited s.limit H k x s.taken s.text.encoding q.early q.early_mark ys q.done h.is_history h.queue.tokens h.queue.count e l)
+    none (e ∙ none_left H s.taken s.text.encoding q.early q.early_mark ys h.queue.tokens) s.slots.awaited (awaited_is s.limit H s.slots s.allowed h.keys)

@@ -31,7 +31,7 @@ none_held H n s h e = rw h.keys.outer (go (lowest_is s.limit H (depth H)))
   where
     all_taken : length (offline H) ≤ s.taken
     all_taken =
-        let l = none_left H s.taken s.text.encoding s.layout.queue.early s.layout.queue.front s.layout.queue.groups.items h.queue.tokens in
+        let l = none_left H s.taken s.text.encoding s.layout.queue.early s.layout.queue.early_mark s.layout.queue.groups.items h.queue.tokens in
         let z : length (offline H) - s.taken ≡ 0 = eqb-true _ _ (sym l ∙ (rw e refl)) in
         omega arith
 

@@ -9,7 +9,7 @@ use Rattle.yaml_scan.specs.Keys.{candidate, live, only_live}
 use Rattle.yaml_scan.specs.Depth.{depth}
 use Rattle.yaml_scan.specs.declared.depth.slots_t.{slots_t}
 use Rattle.yaml_scan.specs.inside.Holding.{HoldsKeys}
-use Rattle.yaml_scan.specs.inside.Slots.{Held, held, held_of, outer_to, lowest, step_of, AreNested}
+use Rattle.yaml_scan.specs.inside.Slots.{Held, held, held_of, outer_to, lowest, held_step, AreNested}
 use Rattle.yaml_scan.specs.Settled.{up_to}
 use Rattle.yaml_scan.specs.Order.{IsHistory, IsNotBefore}
 use Rattle.yaml_scan.proofs.History.KeyCandidates.{candidate_split}
@@ -116,7 +116,7 @@ outer_nested limit H h k n x y l e f =
     same_slot a b q = cc
 
 -- the step of the candidate of the least depth
-pub awaited_is : (limit : ℕ) (H : List Laid) (slots : slots_t) (may : Bool) → HoldsKeys limit H slots may → slots.awaited ≡ step_of (lowest (outer_to limit H (depth H + 1)))
+pub awaited_is : (limit : ℕ) (H : List Laid) (slots : slots_t) (may : Bool) → HoldsKeys limit H slots may → slots.awaited ≡ held_step (lowest (outer_to limit H (depth H + 1)))
 awaited_is limit H slots may k = let n : depth H + 1 ≡ suc (depth H) = omega arith in k.awaited ∙ (rw (k.outer, k.top, n) refl)
 
 -- the lowest candidate of those below depth n

@@ -18,16 +18,16 @@ drop_past (x ∷ G) g zero l = absurd (omega arith)
 drop_past (x ∷ G) g (suc n) l = let e : suc n - suc (length G) ≡ n - length G = omega arith in rw e (drop_past G g n (omega arith))
 
 -- what comes before the lexeme's own token
-abbrev front_of : List Laid → Laid → List Token
-front_of W i = block_ends i ++ inserted W i
+abbrev before_lexeme : List Laid → Laid → List Token
+before_lexeme W i = block_ends i ++ inserted W i
 
-group_is : (W : List Laid) (i : Laid) → group W i ≡ front_of W i ++ OfLexeme i.lexeme ∷ []
+group_is : (W : List Laid) (i : Laid) → group W i ≡ before_lexeme W i ++ OfLexeme i.lexeme ∷ []
 unfolding group
 group_is W i = sym (append_assoc (block_ends i) (inserted W i) (OfLexeme i.lexeme ∷ []))
 
-front_plain : (W : List Laid) (i : Laid) → filter is_of_lexeme (front_of W i) ≡ []
+before_plain : (W : List Laid) (i : Laid) → filter is_of_lexeme (before_lexeme W i) ≡ []
 unfolding block_ends
-front_plain W i = rw (filter-append is_of_lexeme (block_ends i) (inserted W i), ends_no_lexeme i.lexeme i.closed, inserted_no_lexeme W i) refl
+before_plain W i = rw (filter-append is_of_lexeme (block_ends i) (inserted W i), ends_no_lexeme i.lexeme i.closed, inserted_no_lexeme W i) refl
 
 filter_drop : (l : List Token) (n : ℕ) → filter is_of_lexeme l ≡ [] → filter is_of_lexeme (drop n l) ≡ []
 filter_drop l n e = right (filter is_of_lexeme (take n l)) (filter is_of_lexeme (drop n l))
@@ -41,9 +41,9 @@ filter_drop l n e = right (filter is_of_lexeme (take n l)) (filter is_of_lexeme 
 rest_one : (W : List Laid) (i : Laid) (m : ℕ) → m < length (group W i) → length (filter is_of_lexeme (drop m (group W i))) ≡ 1
 rest_one W i m l =
     let a = ap (λ (x : List Token). length x) (group_is W i) in
-    let b = length-append (front_of W i) (OfLexeme i.lexeme ∷ []) in
-    let c : m ≤ length (front_of W i) = omega arith in
-    rw (group_is W i, drop-append-le m (front_of W i) (OfLexeme i.lexeme ∷ []) c, filter-append is_of_lexeme (drop m (front_of W i)) (OfLexeme i.lexeme ∷ []), filter_drop (front_of W i) m (front_plain W i)) refl
+    let b = length-append (before_lexeme W i) (OfLexeme i.lexeme ∷ []) in
+    let c : m ≤ length (before_lexeme W i) = omega arith in
+    rw (group_is W i, drop-append-le m (before_lexeme W i) (OfLexeme i.lexeme ∷ []) c, filter-append is_of_lexeme (drop m (before_lexeme W i)) (OfLexeme i.lexeme ∷ []), filter_drop (before_lexeme W i) m (before_plain W i)) refl
 
 one_more : (X Y : List Token) (n : ℕ) → n ≡ length X → length Y ≡ 1 → 1 + n ≡ length (X ++ Y)
 one_more X Y n e f = let a = length-append X Y in omega arith

@@ -166,7 +166,7 @@ pub done_is : (s : Scanner) → IsRunning s → queued (history s) s.taken (hist
 unfolding offline
 done_is s r =
     let g = r.holds in
-    let a = groups_count s.text.encoding s.layout.queue.early s.layout.queue.front s.layout.queue.groups.items (drop s.taken (offline (history s))) g.queue.tokens in
+    let a = groups_count s.text.encoding s.layout.queue.early s.layout.queue.early_mark s.layout.queue.groups.items (drop s.taken (offline (history s))) g.queue.tokens in
     let b = queued-count (history s) (history s) s.taken in
     let c = g.queue.count in
     let d = history_length s r in

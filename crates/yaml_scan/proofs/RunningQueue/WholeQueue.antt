@@ -20,7 +20,7 @@ use Rattle.yaml_scan.specs.Token.{yaml_token_t}
 use Rattle.yaml_scan.specs.inside.Handed.{groups_tokens, told_leads}
 use Rattle.yaml_scan.specs.inside.Queue.{IsQueue, ends_at, leads, pending, start_at}
 use Rattle.yaml_scan.specs.inside.Scanning.{HoldsWith}
-use Rattle.yaml_scan.specs.inside.Slots.{Held, lowest, outer_to, step_of}
+use Rattle.yaml_scan.specs.inside.Slots.{Held, lowest, outer_to, held_step}
 use Rattle.yaml_scan.proofs.TokenList.SettledStays.{before-offline}
 use Rattle.yaml_scan.proofs.RunningQueue.HeadIsNext.{none_open}
 use Rattle.yaml_scan.proofs.RunningQueue.SlotOrder.{IsLowest, IsNone, held_is, lowest_is, awaited_is}
@@ -56,21 +56,21 @@ module _ (e : yaml_encoding_t) where
       ap (λ (z : List yaml_token_t). told_leads (ends_at y.ends m) ++ z) (sym (map-append _ start key)) ∙ sym (map-append _ (ends_at y.ends m) (start ++ key))
       )
 
-  pub none_early : (front : yaml_mark_t) (ys : List group_t) (y : group_t) → pending 0 front (y ∷ ys) ≡ leads y
-  none_early front [] y = refl
-  none_early front (z ∷ ys) y = refl
+  pub none_early : (early_mark : yaml_mark_t) (ys : List group_t) (y : group_t) → pending 0 early_mark (y ∷ ys) ≡ leads y
+  none_early early_mark [] y = refl
+  none_early early_mark (z ∷ ys) y = refl
 
   -- so those of a queue are all that its groups hand out
-  pub queue_told : (front : yaml_mark_t) (ys : List group_t) (xs : List Token) → IsQueue e 0 front ys xs → hand_out xs ≡ groups_tokens ys
-  queue_told front [] xs q = ap hand_out q
-  queue_told front (y ∷ ys) xs q =
+  pub queue_told : (early_mark : yaml_mark_t) (ys : List group_t) (xs : List Token) → IsQueue e 0 early_mark ys xs → hand_out xs ≡ groups_tokens ys
+  queue_told early_mark [] xs q = ap hand_out q
+  queue_told early_mark (y ∷ ys) xs q =
       let x : Token = q.0 in
       let rest : List Token = q.1 in
-      let is : xs ≡ leads y ++ x ∷ rest = q.2 ∙ ap (λ (z : List Token). z ++ x ∷ rest) (none_early front ys y) in
+      let is : xs ≡ leads y ++ x ∷ rest = q.2 ∙ ap (λ (z : List Token). z ++ x ∷ rest) (none_early early_mark ys y) in
       ap hand_out is
       ∙ map-append (handed_out e) (leads y) (x ∷ rest)
       ∙ ap (λ (z : List yaml_token_t). z ++ handed_out e x ∷ hand_out rest) (leads_told y)
-      ∙ ap (λ (z : List yaml_token_t). told_leads (leads y) ++ handed_out e x ∷ z) (queue_told front ys rest q.5)
+      ∙ ap (λ (z : List yaml_token_t). told_leads (leads y) ++ handed_out e x ∷ z) (queue_told early_mark ys rest q.5)
       ∙ ap (λ (z : yaml_token_t). told_leads (leads y) ++ z ∷ groups_tokens ys) (sym q.3)
       ∙ sym (append_assoc (told_leads (leads y)) (token_of y.token ∷ []) (groups_tokens ys))
 
@@ -89,14 +89,14 @@ module _ (H : List Laid) (n : ℕ) (s : Scanner) (ys : List group_t) (h : HoldsW
   none_awaits : IsNone s.limit H (depth H + 1)
   none_awaits = go (lowest_is s.limit H (depth H + 1))
     where
-      lowest_zero : step_of (lowest (outer_to s.limit H (depth H + 1))) ≡ 0
+      lowest_zero : held_step (lowest (outer_to s.limit H (depth H + 1))) ≡ 0
       lowest_zero = sym (awaited_is s.limit H s.slots s.allowed h.keys) ∙ z
 
       go : IsLowest s.limit H (depth H + 1) ⊎ IsNone s.limit H (depth H + 1) → IsNone s.limit H (depth H + 1)
       go (inr r) = r
       go (inl r) =
           let g = held_is s.limit H r.at r.here r.is in
-          let a : g.laid.number + 2 ≡ 0 = sym (ap (λ (x : Held). x.step) g.told) ∙ sym (ap step_of r.told) ∙ lowest_zero in
+          let a : g.laid.number + 2 ≡ 0 = sym (ap (λ (x : Held). x.step) g.told) ∙ sym (ap held_step r.told) ∙ lowest_zero in
           absurd (omega arith)
 
   pub all_are_settled : before s.limit H ≡ offline H

@@ -136,10 +136,10 @@ module _ (H : List Laid) (s : Scanner) (r : step_t) (x : yaml_lexeme_t) (c : Can
 
     first : IsLaidAs H s r.kind between (group ∷ [])
     first = put_advances H s (groups_in s) (met_in s r) r.in_flow new x canput between.slots between.allowed layout (group ∷ []) record {
-      kept = lv;
-      kept_is = KEPT;
+      left = lv;
+      left_is = KEPT;
       early = λ z. early;
-      front = λ z. absurd (let e = early in omega arith);
+      early_mark = λ z. absurd (let e = early in omega arith);
       completed = None;
       completed_is = rw (candidate_not_value r.kind u.candidate) refl;
       none = true;
@@ -168,7 +168,7 @@ module _ (H : List Laid) (s : Scanner) (r : step_t) (x : yaml_lexeme_t) (c : Can
     step_is = let a = c.can.is_new.step in let n = h.number in let z = h.queue.count in let e = ap (λ (ys : List group_t). length ys) u.alone in omega arith
 
     none_ended : sparing ≡ true → n ≡ 0
-    none_ended q = no_ends n new.start (ENDS ∙ (rw (none_closed r.in_flow r.kind new.start ls falls (u.kept q)) refl))
+    none_ended q = no_ends n new.start (ENDS ∙ (rw (none_closed r.in_flow r.kind new.start ls falls (u.none_closed q)) refl))
 
     then_needed : sparing ≡ true → length (before s.limit H1) ≤ s.taken
     then_needed q = let e = none_ended q in unsettled H1 (s.made + 1 + 1) between (group ∷ []) first.advances.holds (omega arith) step_is (rw (early, e) refl)
@@ -177,30 +177,30 @@ module _ (H : List Laid) (s : Scanner) (r : step_t) (x : yaml_lexeme_t) (c : Can
     decides_it : decides r.in_flow k ≡ true
     decides_it = let i = read_place H s r x c u.candidate in (d.decider i.0 i.1).decides
 
-    abbrev front : yaml_mark_t
-    front = x.reach
+    abbrev gap_end : yaml_mark_t
+    gap_end = x.reach
 
-    not_lost : lost_held s.limit front (root_of outer (Some new)) ≡ None
-    not_lost = none_lost s.limit front outer (Some new) none (live_kept s.limit front new u.live)
+    not_lost : lost_held s.limit gap_end (root_of outer (Some new)) ≡ None
+    not_lost = none_lost s.limit gap_end outer (Some new) none (live_kept s.limit gap_end new u.live)
 
     abbrev completed : Option Held
-    completed = completed_held k s.limit front (Some new)
+    completed = completed_held k s.limit gap_end (Some new)
 
     completes : is_some completed ≡ not (not (is_value k))
     completes = elim (cases_Bool (is_value k)) [ inl v ↦ rw (v, u.live) refl | inr v ↦ rw v refl ]
 
-    then_kept : closing r.in_flow k front ks ≡ None
+    then_kept : closing r.in_flow k gap_end ks ≡ None
     then_kept =
         let l = and_parts _ _ u.live in
-        let e : front.line ≡ new.start.line = eqb-true _ _ l.0 in
+        let e : gap_end.line ≡ new.start.line = eqb-true _ _ l.0 in
         let w : closing r.in_flow r.kind new.start ks ≡ None = rw KEPT (closing_kept r.in_flow r.kind new.start ls) in
-        closing_on r.in_flow r.kind k new.start front ks w ((reach_later H s r x c u.candidate).column (sym e)) (decider_not_closer r.in_flow k decides_it)
+        closing_on r.in_flow r.kind k new.start gap_end ks w ((reach_later H s r x c u.candidate).column (sym e)) (decider_not_closer r.in_flow k decides_it)
 
     at_head : new.step - 1 - s.layout.queue.done ≡ 0
     at_head = let e = step_is in omega arith
 
     module _ (key : Bool) (KEY : key ≡ is_value k) (V : Vec ℕ Global) (LEVELS : reverse V.items ≡ (if key && is_new r.in_flow new.start.column ks then new.start.column ∷ [] else []) ++ ks)
-        (value : yaml_token_t) (SAYS : token_of value ≡ record { token_data = y.token_data; start_mark = front; end_mark = y.end_mark })
+        (value : yaml_token_t) (SAYS : token_of value ≡ record { token_data = y.token_data; start_mark = gap_end; end_mark = y.end_mark })
         (S : slots_t) (OUTER : S.outer.items ≡ nested_outer k outer None) (TOP : S.top ≡ nested_top k outer None) (EMPTY : S.not_simple_keys ≡ vec_len S.outer) (AWAITED : S.awaited ≡ 0)
         (a : Bool) (ALLOWED : (n : ℕ) → r.in_flow ≡ nat_lt 0 n → a ≡ allows k n (not key) false) where
       abbrev pub after : Scanner
@@ -213,16 +213,16 @@ module _ (H : List Laid) (s : Scanner) (r : step_t) (x : yaml_lexeme_t) (c : Can
       abbrev pub last : group_t
       last = record { ends = 0; opens = NONE; key = false; token = value }
 
-      levels_then : reverse V.items ≡ opened r.in_flow completed k front ks
+      levels_then : reverse V.items ≡ opened r.in_flow completed k gap_end ks
       levels_then = LEVELS ∙ (rw KEY (elim (cases_Bool (is_value k)) [
         | inl v ↦ rw (v, u.live) refl
-        | inr v ↦ rw (v, decider_not_entry r.in_flow k decides_it, decider_not_key r.in_flow k decides_it, v, and_not (is_new r.in_flow front.column ks)) refl
+        | inr v ↦ rw (v, decider_not_entry r.in_flow k decides_it, decider_not_key r.in_flow k decides_it, v, and_not (is_new r.in_flow gap_end.column ks)) refl
       ]))
 
-      opens_then : NONE ≡ opened_by r.in_flow completed k front.column ks
+      opens_then : NONE ≡ opened_by r.in_flow completed k gap_end.column ks
       opens_then = elim (cases_Bool (is_value k)) [
         | inl v ↦ rw (v, u.live) refl
-        | inr v ↦ rw (v, decider_not_entry r.in_flow k decides_it, decider_not_key r.in_flow k decides_it, v, and_not (is_new r.in_flow front.column ks)) refl
+        | inr v ↦ rw (v, decider_not_entry r.in_flow k decides_it, decider_not_key r.in_flow k decides_it, v, and_not (is_new r.in_flow gap_end.column ks)) refl
       ]
 
       groups_then : keyed_group ∷ (last ∷ []) ≡ completed_in r.in_flow completed ks s.layout.queue.done (group ∷ []) ++ last ∷ []
@@ -236,16 +236,16 @@ module _ (H : List Laid) (s : Scanner) (r : step_t) (x : yaml_lexeme_t) (c : Can
 
       second : IsPut (counted between) (group ∷ []) (met_after r x k) r.in_flow (new_after s r k x.reach layout) y S a after.layout (keyed_group ∷ (last ∷ []))
       second = record {
-        kept = lv;
-        kept_is = sym (all_kept r.in_flow k front ks kept_falls then_kept);
+        left = lv;
+        left_is = sym (all_kept r.in_flow k gap_end ks kept_falls then_kept);
         early = λ z. early;
-        front = λ z. absurd (let e = early in omega arith);
+        early_mark = λ z. absurd (let e = early in omega arith);
         completed = completed;
         completed_is = refl;
         none = not (is_value k);
         none_is = completes;
         group = last;
-        ends_are = rw (early, none_closed r.in_flow k front ks kept_falls then_kept) refl;
+        ends_are = rw (early, none_closed r.in_flow k gap_end ks kept_falls then_kept) refl;
         token = SAYS;
         key = refl;
         opens = opens_then;
@@ -261,5 +261,5 @@ module _ (H : List Laid) (s : Scanner) (r : step_t) (x : yaml_lexeme_t) (c : Can
       }
 
       pub twice : (zs : List group_t) → zs ≡ keyed_group ∷ (last ∷ []) → (t : Scanner) → counted t ≡ after → LaysTwo sparing H s t zs
-      twice zs Z t T = lays_two H s r x c k y (Some new) new.step layout (group ∷ []) first not_last d.decider (not (is_value k)) completes (accepted r.in_flow k (met_after r x k).allowed front decides_it) not_lost (none_lost s.limit y.reach outer None none refl)
+      twice zs Z t T = lays_two H s r x c k y (Some new) new.step layout (group ∷ []) first not_last d.decider (not (is_value k)) completes (accepted r.in_flow k (met_after r x k).allowed gap_end decides_it) not_lost (none_lost s.limit y.reach outer None none refl)
           sparing then_needed S a after.layout (keyed_group ∷ (last ∷ [])) second d.far zs Z t T

@@ -129,7 +129,7 @@ unfolding candidate
 empty_top limit = refl
 
 module _ (setting : yaml_encoding_t) (input : List ℕ) (s t : Scanner) (n : IsNew s) (T : t.text ≡ front setting input) (C : AreChars t.text.chars) (small : length t.text.chars < 2 ^ 63) (R : refusal_seen t.refusal ≡ refusal setting input) (N : IsNearOf (refusal_seen t.refusal) t.text.chars t.near)
-    (L : t.limit ≡ s.limit) (V : t.layout.levels.items ≡ s.layout.levels.items) (O : t.slots ≡ s.slots) (A : t.allowed ≡ s.allowed) (Q : IsQueue t.text.encoding t.layout.queue.early t.layout.queue.front t.layout.queue.groups.items (StreamStart ∷ [])) (G : length t.layout.queue.groups.items ≡ 1) (E : t.layout.queue.early ≡ s.layout.queue.early) (D : t.layout.queue.done ≡ s.layout.queue.done) (J : t.reach ≡ s.reach) (K : t.taken ≡ s.taken) (M : t.made ≡ 1)
+    (L : t.limit ≡ s.limit) (V : t.layout.levels.items ≡ s.layout.levels.items) (O : t.slots ≡ s.slots) (A : t.allowed ≡ s.allowed) (Q : IsQueue t.text.encoding t.layout.queue.early t.layout.queue.early_mark t.layout.queue.groups.items (StreamStart ∷ [])) (G : length t.layout.queue.groups.items ≡ 1) (E : t.layout.queue.early ≡ s.layout.queue.early) (D : t.layout.queue.done ≡ s.layout.queue.done) (J : t.reach ≡ s.reach) (K : t.taken ≡ s.taken) (M : t.made ≡ 1)
     (e : near_fault t.near 0 (refusal_seen t.refusal) ≡ None) where
   input_is : input_of t ≡ decoded_input setting input
   unfolding decoded_input

@@ -42,7 +42,7 @@ levels_beside : (H : List Laid) (s t : Scanner) → Beside s t → HoldsLevels (
 levels_beside H s t b k = rw (b.text, b.levels) k
 
 queue_beside : (H : List Laid) (s t : Scanner) → Beside s t → HoldsQueue s.text.encoding s.taken H s.layout.queue (groups_in s) → HoldsQueue t.text.encoding t.taken H t.layout.queue (groups_in t)
-queue_beside H s t b k = record { tokens = rw (b.text, b.early, b.queue_front, b.groups, b.taken) k.tokens; count = rw (b.done, b.groups) k.count; early = rw b.early k.early }
+queue_beside H s t b k = record { tokens = rw (b.text, b.early, b.early_mark, b.groups, b.taken) k.tokens; count = rw (b.done, b.groups) k.count; early = rw b.early k.early }
 
 pub holds_beside : (H : List Laid) (n : ℕ) (s t : Scanner) → Beside s t → Holds H n s → Holds H n t
 holds_beside H n s t b h = record {

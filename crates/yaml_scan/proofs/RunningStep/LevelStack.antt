@@ -53,38 +53,38 @@ closing_on false k j m n (c ∷ cs) e l q =
 
 -- THE ENDS
 -- those of the columns above the end of the gap come first
-module _ (k : Kind) (front start : yaml_mark_t) where
-  abbrev pub is_early : ℕ → Bool
-  is_early c = is_stream_end k && nat_lt front.column c
+module _ (k : Kind) (gap_end start : yaml_mark_t) where
+  abbrev pub ends_early : ℕ → Bool
+  ends_early c = is_stream_end k && nat_lt gap_end.column c
 
-  no_more : (c : ℕ) (cs : List ℕ) → AllLess c cs → is_early c ≡ false → filter is_early cs ≡ []
+  no_more : (c : ℕ) (cs : List ℕ) → AllLess c cs → ends_early c ≡ false → filter ends_early cs ≡ []
   no_more c [] a e = refl
-  no_more c (d ∷ cs) a e = let f : is_early d ≡ false = less (is_stream_end k) e in rw f (no_more c cs a.1 e)
+  no_more c (d ∷ cs) a e = let f : ends_early d ≡ false = less (is_stream_end k) e in rw f (no_more c cs a.1 e)
     where
-      less : (b : Bool) → (b && nat_lt front.column c) ≡ false → (b && nat_lt front.column d) ≡ false
+      less : (b : Bool) → (b && nat_lt gap_end.column c) ≡ false → (b && nat_lt gap_end.column d) ≡ false
       less false e = refl
-      less true e = let l = a.0 in let m = ltb-false front.column c e in le-ltb front.column d (omega arith)
+      less true e = let l = a.0 in let m = ltb-false gap_end.column c e in le-ltb gap_end.column d (omega arith)
 
-  one_start : (c : ℕ) → is_early c ≡ false → end_at k front start c ≡ start
+  one_start : (c : ℕ) → ends_early c ≡ false → end_at k gap_end start c ≡ start
   one_start c e = rw e refl
 
-  all_late : (cs : List ℕ) → filter is_early cs ≡ [] → map (λ c. BlockEnd (end_at k front start c)) cs ≡ ends_at (length (filter (λ c. not (is_early c)) cs)) start
+  all_late : (cs : List ℕ) → filter ends_early cs ≡ [] → map (λ c. BlockEnd (end_at k gap_end start c)) cs ≡ ends_at (length (filter (λ c. not (ends_early c)) cs)) start
   all_late [] e = refl
-  all_late (c ∷ cs) e = elim (cases_Bool (is_early c)) [
-    | inl q ↦ (let f : c ∷ filter is_early cs ≡ [] = rw q at e in absurd (let n = ap (λ (l : List ℕ). length l) f in omega arith))
-    | inr q ↦ (let f : filter is_early cs ≡ [] = rw q at e in rw (one_start c q, q) (ap (λ (l : List Token). BlockEnd start ∷ l) (all_late cs f)))
+  all_late (c ∷ cs) e = elim (cases_Bool (ends_early c)) [
+    | inl q ↦ (let f : c ∷ filter ends_early cs ≡ [] = rw q at e in absurd (let n = ap (λ (l : List ℕ). length l) f in omega arith))
+    | inr q ↦ (let f : filter ends_early cs ≡ [] = rw q at e in rw (one_start c q, q) (ap (λ (l : List Token). BlockEnd start ∷ l) (all_late cs f)))
   ]
 
-  pub ends_split : (cs : List ℕ) → IsFalling cs → ends_at (length (filter is_early cs)) front ++ ends_at (length (filter (λ c. not (is_early c)) cs)) start ≡ map (λ c. BlockEnd (end_at k front start c)) cs
+  pub ends_split : (cs : List ℕ) → IsFalling cs → ends_at (length (filter ends_early cs)) gap_end ++ ends_at (length (filter (λ c. not (ends_early c)) cs)) start ≡ map (λ c. BlockEnd (end_at k gap_end start c)) cs
   ends_split [] g = refl
-  ends_split (c ∷ cs) g = elim (cases_Bool (is_early c)) [
-    | inl q ↦ rw q (ap (λ (l : List Token). BlockEnd front ∷ l) (ends_split cs g.1))
+  ends_split (c ∷ cs) g = elim (cases_Bool (ends_early c)) [
+    | inl q ↦ rw q (ap (λ (l : List Token). BlockEnd gap_end ∷ l) (ends_split cs g.1))
     | inr q ↦ (let n = no_more c cs g.0 q in rw (q, n) (ap (λ (l : List Token). BlockEnd start ∷ l) (sym (all_late cs n))))
   ]
 
-  pub none_early : (cs : List ℕ) → is_stream_end k ≡ false → length (filter is_early cs) ≡ 0
+  pub none_early : (cs : List ℕ) → is_stream_end k ≡ false → length (filter ends_early cs) ≡ 0
   none_early [] e = refl
-  none_early (c ∷ cs) e = let f : is_early c ≡ false = rw e refl in rw f (none_early cs e)
+  none_early (c ∷ cs) e = let f : ends_early c ≡ false = rw e refl in rw f (none_early cs e)
 
 falling_some : (t : ℕ → Bool) (n : ℕ) (cs : List ℕ) → AllLess n cs → AllLess n (filter t cs)
 falling_some t n [] a = tt
@@ -144,7 +144,7 @@ without_top xs y ys q =
 -- where the top is closed, what is kept is in the rest
 pub record Shorter (f : Bool) (k : Kind) (m : yaml_mark_t) (xs ys : List ℕ) : Type 0 where
   pub falls : IsFalling (reverse ys)
-  pub kept : filter (stays f k m) (reverse ys) ≡ filter (stays f k m) (reverse xs)
+  pub same : filter (stays f k m) (reverse ys) ≡ filter (stays f k m) (reverse xs)
 
 pub closed_top : (f : Bool) (k : Kind) (m : yaml_mark_t) (xs : List ℕ) → IsFalling (reverse xs) → is_some (closing f k m (reverse xs)) ≡ true → Shorter f k m xs (take (length xs - 1) xs)
 closed_top f k m xs g e = go (reverse xs) refl
@@ -161,7 +161,7 @@ closed_top f k m xs g e = go (reverse xs) refl
         let w = without_top xs c cs q in
         let h : IsFalling (c ∷ cs) = rw q at g in
         let s = closes c cs (rw q at e) in
-        record { falls = subst (λ (l : List ℕ). IsFalling l) (sym w) h.1; kept = ap (λ (l : List ℕ). filter (stays f k m) l) w ∙ sym (kept_without f k m c cs s) ∙ ap (λ (l : List ℕ). filter (stays f k m) l) (sym q) }
+        record { falls = subst (λ (l : List ℕ). IsFalling l) (sym w) h.1; same = ap (λ (l : List ℕ). filter (stays f k m) l) w ∙ sym (kept_without f k m c cs s) ∙ ap (λ (l : List ℕ). filter (stays f k m) l) (sym q) }
 
 pub none_is : (o : Option ℕ) → is_some o ≡ false → o ≡ None
 none_is None e = refl

@@ -15,7 +15,7 @@ use Rattle.yaml_scan.specs.Laid.{Laid, reach, is_none, column, Lexeme}
 use Rattle.yaml_scan.specs.Depth.{depth}
 use Rattle.yaml_scan.specs.Keys.{live, completed_by, is_candidate, enters}
 use Rattle.yaml_scan.specs.Allowed.{allowed, allowed_after, allows}
-use Rattle.yaml_scan.specs.Levels.{laid, is_required, stays, open_columns, kept_columns, level, greatest_level}
+use Rattle.yaml_scan.specs.Levels.{laid, is_required, stays, open_columns, staying_columns, level, greatest_level}
 use Rattle.yaml_scan.specs.Levels.{is_above, opens_level}
 use Rattle.yaml_scan.specs.Order.{IsHistory}
 use Rattle.yaml_text.specs.declared.types.yaml_encoding_t.{yaml_encoding_t}
@@ -38,7 +38,7 @@ use Rattle.yaml_scan.proofs.TokenList.QueueBound.{length-begins}
 use Rattle.yaml_scan.proofs.TokenList.SettledStays.{before-before, before-offline}
 use Rattle.yaml_scan.proofs.History.LevelColumns.{opens_itself, open_columns-none, open_columns-some, opens_self, completed_self, completes_not_opener}
 use Rattle.yaml_scan.proofs.TokenList.GroupInsertion.{IsInsertion, offline-more_some, and_false}
-use Rattle.yaml_scan.proofs.History.LevelsFall.{kept_columns-whole, level-candidate'}
+use Rattle.yaml_scan.proofs.History.LevelsFall.{staying_columns-whole, level-candidate'}
 use Rattle.yaml_scan.proofs.RunningQueue.QueueTokens.{queue-more_none, not_settled}
 use Rattle.yaml_scan.proofs.History.DepthOneOn.{depth-start, depth-end, depth-same}
 use Rattle.yaml_scan.proofs.RunningStep.SlotTests.{outer_length, zero_test}
@@ -64,23 +64,23 @@ module _ (limit : ℕ) (H : List Laid) (x : Lexeme) (h : IsHistory limit (laid l
   unfolding laid
   depth_is = refl
 
-  pub kept_levels : filter (stays (nat_lt 0 (depth H)) x.kind x.start) (open_columns H) ≡ kept_columns H x.kind x.start
-  unfolding kept_columns
+  pub kept_levels : filter (stays (nat_lt 0 (depth H)) x.kind x.start) (open_columns H) ≡ staying_columns H x.kind x.start
+  unfolding staying_columns
   kept_levels = refl
 
-  pub ends_are : map (λ c. BlockEnd (end_at x.kind x.front x.start c)) (filter (λ c. not (stays (nat_lt 0 (depth H)) x.kind x.start c)) (open_columns H)) ≡ block_ends (laid limit H x)
+  pub ends_are : map (λ c. BlockEnd (end_at x.kind x.gap_end x.start c)) (filter (λ c. not (stays (nat_lt 0 (depth H)) x.kind x.start c)) (open_columns H)) ≡ block_ends (laid limit H x)
   unfolding laid block_ends
   ends_are = refl
 
   completed_none : completed_by limit H x.kind x.start ≡ None → (laid limit H x).completed ≡ None
   completed_none e = laid_completed limit H x ∙ ap (option_map (λ (c : Laid). c.number)) e
 
-  itself_is : (laid limit H x).completed ≡ None → opens_itself (laid limit H x) ≡ (is_new (nat_lt 0 (depth H)) x.start.column (kept_columns H x.kind x.start) && opens_level x.kind true)
+  itself_is : (laid limit H x).completed ≡ None → opens_itself (laid limit H x) ≡ (is_new (nat_lt 0 (depth H)) x.start.column (staying_columns H x.kind x.start) && opens_level x.kind true)
   unfolding laid level
-  itself_is e = ap (λ (o : Option ℕ). nat_eq (depth H) 0 && (is_above x.start.column (greatest_level (kept_columns H x.kind x.start)) && opens_level x.kind (is_none o))) e ∙ and_assoc (eqb (depth H) 0) (is_above x.start.column (greatest_level (kept_columns H x.kind x.start))) (opens_level x.kind true)
-      ∙ ap (λ (b : Bool). (b && is_above x.start.column (greatest_level (kept_columns H x.kind x.start))) && opens_level x.kind true) (sym (zero_test (depth H)))
+  itself_is e = ap (λ (o : Option ℕ). nat_eq (depth H) 0 && (is_above x.start.column (greatest_level (staying_columns H x.kind x.start)) && opens_level x.kind (is_none o))) e ∙ and_assoc (eqb (depth H) 0) (is_above x.start.column (greatest_level (staying_columns H x.kind x.start))) (opens_level x.kind true)
+      ∙ ap (λ (b : Bool). (b && is_above x.start.column (greatest_level (staying_columns H x.kind x.start))) && opens_level x.kind true) (sym (zero_test (depth H)))
 
-  levels_none : completed_by limit H x.kind x.start ≡ None → (if is_new (nat_lt 0 (depth H)) x.start.column (kept_columns H x.kind x.start) && opens_level x.kind true then x.start.column ∷ [] else []) ++ kept_columns H x.kind x.start ≡ open_columns (laid limit H x ∷ H)
+  levels_none : completed_by limit H x.kind x.start ≡ None → (if is_new (nat_lt 0 (depth H)) x.start.column (staying_columns H x.kind x.start) && opens_level x.kind true then x.start.column ∷ [] else []) ++ staying_columns H x.kind x.start ≡ open_columns (laid limit H x ∷ H)
   levels_none e = let n = completed_none e in
       sym (open_columns-none limit (laid limit H x) H h n ∙ (rw (itself_is n, lexeme_is) refl))
 
@@ -95,18 +95,18 @@ module _ (limit : ℕ) (H : List Laid) (x : Lexeme) (h : IsHistory limit (laid l
     candidate_depth : c.depth ≡ depth H
     candidate_depth = (candidate_split H (depth H) c is_completion.candidate).saved.depth
 
-    new_same : (nat_eq c.depth 0 && is_above (column c) c.level) ≡ is_new (nat_lt 0 (depth H)) (column c) (kept_columns H x.kind x.start)
+    new_same : (nat_eq c.depth 0 && is_above (column c) c.level) ≡ is_new (nat_lt 0 (depth H)) (column c) (staying_columns H x.kind x.start)
     new_same = elim (cases_eq (depth H) 0) [
-      | inl z ↦ (let l : c.level ≡ greatest_level (kept_columns H (laid limit H x).lexeme.kind (laid limit H x).lexeme.start) = level-candidate' limit (laid limit H x) H c h is_completion (candidate_depth ∙ z) in
-          let k : c.level ≡ greatest_level (kept_columns H x.kind x.start) = rw lexeme_is at l in rw (candidate_depth, k, zero_test (depth H)) refl)
+      | inl z ↦ (let l : c.level ≡ greatest_level (staying_columns H (laid limit H x).lexeme.kind (laid limit H x).lexeme.start) = level-candidate' limit (laid limit H x) H c h is_completion (candidate_depth ∙ z) in
+          let k : c.level ≡ greatest_level (staying_columns H x.kind x.start) = rw lexeme_is at l in rw (candidate_depth, k, zero_test (depth H)) refl)
       | inr z ↦ (let e : nat_eq (depth H) 0 ≡ false = ne_eqb _ _ z in rw (candidate_depth, zero_test (depth H), e) refl)
     ]
 
-    levels_some : (if is_new (nat_lt 0 (depth H)) (column c) (kept_columns H x.kind x.start) then column c ∷ [] else []) ++ kept_columns H x.kind x.start ≡ open_columns (laid limit H x ∷ H)
+    levels_some : (if is_new (nat_lt 0 (depth H)) (column c) (staying_columns H x.kind x.start) then column c ∷ [] else []) ++ staying_columns H x.kind x.start ≡ open_columns (laid limit H x ∷ H)
     levels_some = sym (open_columns-some limit (laid limit H x) H c h is_completion completed ∙ (rw (new_same, lexeme_is) refl))
 
     no_ends : block_ends (laid limit H x) ≡ []
-    no_ends = sym ends_are ∙ ap (λ (cs : List ℕ). map (λ c. BlockEnd (end_at x.kind x.front x.start c)) cs) none
+    no_ends = sym ends_are ∙ ap (λ (cs : List ℕ). map (λ c. BlockEnd (end_at x.kind x.gap_end x.start c)) cs) none
       where
         split : (t : ℕ → Bool) (cs : List ℕ) → filter t cs ≡ cs → filter (λ d. not (t d)) cs ≡ []
         split t [] e = refl
@@ -124,8 +124,8 @@ module _ (limit : ℕ) (H : List Laid) (x : Lexeme) (h : IsHistory limit (laid l
 
         none : filter (λ c. not (stays (nat_lt 0 (depth H)) x.kind x.start c)) (open_columns H) ≡ []
         none = elim (cases_eq (depth H) 0) [
-          | inl z ↦ (let w : kept_columns H (laid limit H x).lexeme.kind (laid limit H x).lexeme.start ≡ open_columns H = kept_columns-whole limit (laid limit H x) H c h is_completion (candidate_depth ∙ z) in
-              let v : kept_columns H x.kind x.start ≡ open_columns H = rw lexeme_is at w in split (stays (nat_lt 0 (depth H)) x.kind x.start) (open_columns H) (kept_levels ∙ v))
+          | inl z ↦ (let w : staying_columns H (laid limit H x).lexeme.kind (laid limit H x).lexeme.start ≡ open_columns H = staying_columns-whole limit (laid limit H x) H c h is_completion (candidate_depth ∙ z) in
+              let v : staying_columns H x.kind x.start ≡ open_columns H = rw lexeme_is at w in split (stays (nat_lt 0 (depth H)) x.kind x.start) (open_columns H) (kept_levels ∙ v))
           | inr z ↦ subst (λ (f : Bool). filter (λ c. not (stays f x.kind x.start c)) (open_columns H) ≡ []) (sym (lt-ltb 0 (depth H) (omega arith))) (filter_nothing x.kind x.start (open_columns H))
         ]
 
@@ -156,11 +156,11 @@ module _ (limit : ℕ) (H : List Laid) (x : Lexeme) (h : IsHistory limit (laid l
       was_is = ap (λ (l : List Token). drop t l) insertion.was ∙ drop-append-le t insertion.front (OfLexeme c.lexeme ∷ insertion.rest) within_front
           ∙ ap (λ (l : List Token). l ++ OfLexeme c.lexeme ∷ insertion.rest) place.front_is ∙ append_assoc place.whole place.ends (OfLexeme c.lexeme ∷ insertion.rest)
 
-      key_same : key_tokens c ≡ key_at (is_new (nat_lt 0 (depth H)) (column c) (kept_columns H x.kind x.start)) c.lexeme.start
+      key_same : key_tokens c ≡ key_at (is_new (nat_lt 0 (depth H)) (column c) (staying_columns H x.kind x.start)) c.lexeme.start
       key_same = ap (λ (b : Bool). (if b then BlockMappingStart c.lexeme.start ∷ [] else []) ++ (InsertedKey c.lexeme.start ∷ [])) new_same
 
       abbrev marked : List Token
-      marked = place.whole ++ (place.ends ++ (key_at (is_new (nat_lt 0 (depth H)) (column c) (kept_columns H x.kind x.start)) c.lexeme.start ++ OfLexeme c.lexeme ∷ insertion.rest))
+      marked = place.whole ++ (place.ends ++ (key_at (is_new (nat_lt 0 (depth H)) (column c) (staying_columns H x.kind x.start)) c.lexeme.start ++ OfLexeme c.lexeme ∷ insertion.rest))
 
       now_is : drop t (offline (laid limit H x ∷ H)) ≡ marked ++ OfLexeme x ∷ []
       now_is =
@@ -184,12 +184,12 @@ module _ (limit : ℕ) (H : List Laid) (x : Lexeme) (h : IsHistory limit (laid l
             let l = length-append (candidate_split H (depth H) c is_completion.candidate).newer (c ∷ (candidate_split H (depth H) c is_completion.candidate).older) in
             (omega arith, omega arith)
 
-        queue_some : IsQueue e 0 m (keyed_at ((held_of c).step - 1 - d) (is_new (nat_lt 0 (depth H)) (column c) (kept_columns H x.kind x.start)) ys) marked
+        queue_some : IsQueue e 0 m (keyed_at ((held_of c).step - 1 - d) (is_new (nat_lt 0 (depth H)) (column c) (staying_columns H x.kind x.start)) ys) marked
         queue_some = rw place_is (key_put e m ys place.whole place.ends c.lexeme insertion.rest _ (subst (λ (l : List Token). IsQueue e 0 m ys l) was_is Q) place.is_whole place.are_ends)
 
   group_none : completed_by limit H x.kind x.start ≡ None → group (laid limit H x ∷ H) (laid limit H x)
-      ≡ block_ends (laid limit H x) ++ ((if is_new (nat_lt 0 (depth H)) x.start.column (kept_columns H x.kind x.start) && opens_level x.kind true then start_token x.kind x.start ∷ [] else []) ++ OfLexeme x ∷ [])
-  unfolding group inserted laid block_ends kept_columns depth
+      ≡ block_ends (laid limit H x) ++ ((if is_new (nat_lt 0 (depth H)) x.start.column (staying_columns H x.kind x.start) && opens_level x.kind true then start_token x.kind x.start ∷ [] else []) ++ OfLexeme x ∷ [])
+  unfolding group inserted laid block_ends staying_columns depth
   group_none e = rw (opens_self limit (laid limit H x) H h, itself_is (completed_none e), completed_self limit (laid limit H x) H h, lexeme_is)
       (ap (λ (l : List Token). block_ends (laid limit H x) ++ (l ++ OfLexeme x ∷ [])) (append-nil _))
 
@@ -202,7 +202,7 @@ module _ (limit : ℕ) (H : List Laid) (x : Lexeme) (h : IsHistory limit (laid l
   start_is false = refl
 
   queue_none : (t : ℕ) → t ≤ length (before limit H) → completed_by limit H x.kind x.start ≡ None
-      → drop t (offline H) ++ ((block_ends (laid limit H x) ++ start_at (opened_by (nat_lt 0 (depth H)) None x.kind x.start.column (kept_columns H x.kind x.start)) x.start) ++ OfLexeme x ∷ [])
+      → drop t (offline H) ++ ((block_ends (laid limit H x) ++ start_at (opened_by (nat_lt 0 (depth H)) None x.kind x.start.column (staying_columns H x.kind x.start)) x.start) ++ OfLexeme x ∷ [])
       ≡ drop t (offline (laid limit H x ∷ H))
   queue_none t l e =
       let b = before-offline limit H h.2 in
@@ -210,13 +210,13 @@ module _ (limit : ℕ) (H : List Laid) (x : Lexeme) (h : IsHistory limit (laid l
       let u : t ≤ length (offline H) = omega arith in
       sym (queue-more_none limit (laid limit H x) H t h (completed_none e) u ∙ ap (λ (l : List Token). drop t (offline H) ++ l) (group_none e
       ∙ sym (append_assoc (block_ends (laid limit H x)) _ (OfLexeme x ∷ []))
-      ∙ ap (λ (l : List Token). (block_ends (laid limit H x) ++ l) ++ OfLexeme x ∷ []) (sym (start_is (is_new (nat_lt 0 (depth H)) x.start.column (kept_columns H x.kind x.start) && opens_level x.kind true)))))
+      ∙ ap (λ (l : List Token). (block_ends (laid limit H x) ++ l) ++ OfLexeme x ∷ []) (sym (start_is (is_new (nat_lt 0 (depth H)) x.start.column (staying_columns H x.kind x.start) && opens_level x.kind true)))))
 
   -- THE LEVELS AND THE QUEUE
-  pub levels_more : opened (nat_lt 0 (depth H)) (option_map held_of (completed_by limit H x.kind x.start)) x.kind x.start (kept_columns H x.kind x.start) ≡ open_columns (laid limit H x ∷ H)
+  pub levels_more : opened (nat_lt 0 (depth H)) (option_map held_of (completed_by limit H x.kind x.start)) x.kind x.start (staying_columns H x.kind x.start) ≡ open_columns (laid limit H x ∷ H)
   levels_more = go (completed_by limit H x.kind x.start) refl
     where
-      go : (o : Option Laid) → completed_by limit H x.kind x.start ≡ o → opened (nat_lt 0 (depth H)) (option_map held_of o) x.kind x.start (kept_columns H x.kind x.start) ≡ open_columns (laid limit H x ∷ H)
+      go : (o : Option Laid) → completed_by limit H x.kind x.start ≡ o → opened (nat_lt 0 (depth H)) (option_map held_of o) x.kind x.start (staying_columns H x.kind x.start) ≡ open_columns (laid limit H x ∷ H)
       go None e = levels_none e
       go (Some c) e = levels_some c e
 
@@ -231,16 +231,16 @@ module _ (limit : ℕ) (H : List Laid) (x : Lexeme) (h : IsHistory limit (laid l
     put_here : (zs : List group_t) (q : List Token) (o : block_t) → IsQueue e 0 m zs q → y.opens ≡ o → IsQueue e n f (zs ++ y ∷ []) (q ++ ((block_ends (laid limit H x) ++ start_at o x.start) ++ OfLexeme x ∷ []))
     put_here zs q o R O = subst (λ (l : List Token). IsQueue e n f (zs ++ y ∷ []) (q ++ (l ++ OfLexeme x ∷ []))) (leads_are o O) (put_after e m f n zs q y (OfLexeme x) R Y refl)
 
-    pub queue_more : y.opens ≡ opened_by (nat_lt 0 (depth H)) (option_map held_of (completed_by limit H x.kind x.start)) x.kind x.start.column (kept_columns H x.kind x.start)
-        → IsQueue e n f (completed_in (nat_lt 0 (depth H)) (option_map held_of (completed_by limit H x.kind x.start)) (kept_columns H x.kind x.start) d ys ++ y ∷ []) (drop t (offline (laid limit H x ∷ H)))
+    pub queue_more : y.opens ≡ opened_by (nat_lt 0 (depth H)) (option_map held_of (completed_by limit H x.kind x.start)) x.kind x.start.column (staying_columns H x.kind x.start)
+        → IsQueue e n f (completed_in (nat_lt 0 (depth H)) (option_map held_of (completed_by limit H x.kind x.start)) (staying_columns H x.kind x.start) d ys ++ y ∷ []) (drop t (offline (laid limit H x ∷ H)))
     queue_more O = go (completed_by limit H x.kind x.start) refl O
       where
-        go : (o : Option Laid) → completed_by limit H x.kind x.start ≡ o → y.opens ≡ opened_by (nat_lt 0 (depth H)) (option_map held_of o) x.kind x.start.column (kept_columns H x.kind x.start)
-            → IsQueue e n f (completed_in (nat_lt 0 (depth H)) (option_map held_of o) (kept_columns H x.kind x.start) d ys ++ y ∷ []) (drop t (offline (laid limit H x ∷ H)))
+        go : (o : Option Laid) → completed_by limit H x.kind x.start ≡ o → y.opens ≡ opened_by (nat_lt 0 (depth H)) (option_map held_of o) x.kind x.start.column (staying_columns H x.kind x.start)
+            → IsQueue e n f (completed_in (nat_lt 0 (depth H)) (option_map held_of o) (staying_columns H x.kind x.start) d ys ++ y ∷ []) (drop t (offline (laid limit H x ∷ H)))
         go None s O = subst (λ (l : List Token). IsQueue e n f (ys ++ y ∷ []) l) (queue_none t T s) (put_here ys (drop t (offline H)) _ Q O)
-        go (Some c) s O = subst (λ (l : List Token). IsQueue e n f (keyed_at ((held_of c).step - 1 - d) (is_new (nat_lt 0 (depth H)) (column c) (kept_columns H x.kind x.start)) ys ++ y ∷ []) l)
+        go (Some c) s O = subst (λ (l : List Token). IsQueue e n f (keyed_at ((held_of c).step - 1 - d) (is_new (nat_lt 0 (depth H)) (column c) (staying_columns H x.kind x.start)) ys ++ y ∷ []) l)
             (ap (λ (l : List Token). marked c s t T ++ (l ++ OfLexeme x ∷ [])) (append-nil (block_ends (laid limit H x)) ∙ no_ends c s) ∙ sym (now_is c s t T))
-            (put_here (keyed_at ((held_of c).step - 1 - d) (is_new (nat_lt 0 (depth H)) (column c) (kept_columns H x.kind x.start)) ys) (marked c s t T) NONE (queue_some c s t T e m ys Q d D) O)
+            (put_here (keyed_at ((held_of c).step - 1 - d) (is_new (nat_lt 0 (depth H)) (column c) (staying_columns H x.kind x.start)) ys) (marked c s t T) NONE (queue_some c s t T e m ys Q d D) O)
 
   pub fits : (t : ℕ) → t ≤ length (before limit H) → (e : yaml_encoding_t) (m : yaml_mark_t) (ys : List group_t) → IsQueue e 0 m ys (drop t (offline H)) → (d : ℕ) → d + length ys ≡ length H + 1 → Fitting (option_map held_of (completed_by limit H x.kind x.start)) d ys
   fits t l e m ys Q d D = go (completed_by limit H x.kind x.start) refl
@@ -287,25 +287,25 @@ module _ (limit : ℕ) (H : List Laid) (x : Lexeme) (h : IsHistory limit (laid l
       let r : held limit (laid limit H x ∷ H) n ≡ still_held limit x.reach (held limit H n) = o ∙ ap (λ (m : yaml_mark_t). still_held limit m (held limit H n)) reach_is in
       map-append (still_held limit x.reach) (outer_to limit H n) (held limit H n ∷ []) ∙ (rw (outer_swept n (omega arith), r) refl)
 
-  pub required_is : is_required (laid limit H x) ≡ is_level (nat_lt 0 (depth H)) (greatest_level (kept_columns H x.kind x.start)) x.start.column
+  pub required_is : is_required (laid limit H x) ≡ is_level (nat_lt 0 (depth H)) (greatest_level (staying_columns H x.kind x.start)) x.start.column
   unfolding laid level
   required_is = rw (zero_test (depth H)) refl
 
   pub candidate_is : is_candidate (laid limit H x) ≡ is_candidate_kind x.kind
   candidate_is = ap is_candidate_kind kind_is
 
-  pub allowed_of : (laid limit H x).key_allowed ≡ allowed H x.front
+  pub allowed_of : (laid limit H x).key_allowed ≡ allowed H x.gap_end
   unfolding laid
   allowed_of = refl
 
   pub at_depth : eqb (laid limit H x).depth (depth H) ≡ true
   at_depth = eq-eqb _ _ depth_is
 
-  pub new_is : (new : Held) → new ≡ record { step = length H + 2; start = x.start; required = is_level (nat_lt 0 (depth H)) (greatest_level (kept_columns H x.kind x.start)) x.start.column } → new ≡ held_of (laid limit H x)
+  pub new_is : (new : Held) → new ≡ record { step = length H + 2; start = x.start; required = is_level (nat_lt 0 (depth H)) (greatest_level (staying_columns H x.kind x.start)) x.start.column } → new ≡ held_of (laid limit H x)
   unfolding laid level
   new_is new e = e ∙ (rw (zero_test (depth H)) refl)
 
-  module _ (a : Bool) (A : a ≡ allowed H x.front) (new : Held) (N : new ≡ held_of (laid limit H x)) where
+  module _ (a : Bool) (A : a ≡ allowed H x.gap_end) (new : Held) (N : new ≡ held_of (laid limit H x)) where
     pub top_swept : still_held limit x.reach (slot_after x.kind a new (held limit H (depth H))) ≡ held limit (laid limit H x ∷ H) (depth H)
     top_swept = elim (cases_Bool (is_candidate_kind x.kind)) [
       | inl c ↦ elim (cases_Bool a) [

@@ -23,7 +23,7 @@ use Rattle.yaml_scan.specs.Token.{unnamed_yaml_token_t_data, yaml_token_t, type_
 use Rattle.yaml_scan.specs.TokenTypes.{is_last_type}
 use Rattle.yaml_scan.specs.Words.{HasWords}
 use Rattle.yaml_scan.specs.SourceOf.{source_of}
-use Rattle.yaml_scan.specs.Step.{front_of}
+use Rattle.yaml_scan.specs.Step.{gap_end_of}
 use Rattle.yaml_scan.specs.inside.TextReads.{IsDecider, IsRead}
 use Rattle.yaml_scan.proofs.RunningStep.HeldBeside.{holds_as}
 use Rattle.yaml_scan.proofs.RunningStep.TwoLaid.{read_place}
@@ -62,17 +62,17 @@ tokens_within e n m (y ∷ ys) xs q =
 -- there are few of them
 pub few_tokens : (H : List Laid) (n : ℕ) (s : Scanner) (ys : List group_t) → HoldsWith H n s ys → n < 2 ^ 65 → 0 < length (groups_tokens ys) → s.taken + length (groups_tokens ys) < 2 ^ 128
 few_tokens H n s ys h l z =
-    let a = tokens_within s.text.encoding s.layout.queue.early s.layout.queue.front ys (drop s.taken (offline H)) h.queue.tokens in
+    let a = tokens_within s.text.encoding s.layout.queue.early s.layout.queue.early_mark ys (drop s.taken (offline H)) h.queue.tokens in
     let b = length-drop s.taken (offline H) in
     let c = four_tokens_a_step s.limit H h.is_history in
     let d = h.number in
     omega arith
 
 -- THE SAME SCANNER WITH ANOTHER QUEUE
-queue_holds : (H : List Laid) (n : ℕ) (s : Scanner) (zs : List group_t) (q : queue_t) → q.done ≡ s.layout.queue.done → q.early ≡ s.layout.queue.early → q.front ≡ s.layout.queue.front → HoldsWith H n s zs → HoldsWith H n (with_queue s q) zs
+queue_holds : (H : List Laid) (n : ℕ) (s : Scanner) (zs : List group_t) (q : queue_t) → q.done ≡ s.layout.queue.done → q.early ≡ s.layout.queue.early → q.early_mark ≡ s.layout.queue.early_mark → HoldsWith H n s zs → HoldsWith H n (with_queue s q) zs
 queue_holds H n s zs q D E F h = let k = h.queue in holds_as H n s (with_queue s q) h refl refl refl refl refl refl (record { tokens = rw (E, F) k.tokens; count = rw D k.count; early = λ e. E ∙ k.early e }) h.taken
 
-queue_advances : (H : List Laid) (s t : Scanner) (zs : List group_t) (q : queue_t) → q.done ≡ t.layout.queue.done → q.early ≡ t.layout.queue.early → q.front ≡ t.layout.queue.front → AdvancesWith H s t zs → AdvancesWith H s (with_queue t q) zs
+queue_advances : (H : List Laid) (s t : Scanner) (zs : List group_t) (q : queue_t) → q.done ≡ t.layout.queue.done → q.early ≡ t.layout.queue.early → q.early_mark ≡ t.layout.queue.early_mark → AdvancesWith H s t zs → AdvancesWith H s (with_queue t q) zs
 queue_advances H s t zs q D E F a = record {
   lexeme = a.lexeme;
   step = a.step;
@@ -83,7 +83,7 @@ queue_advances H s t zs q D E F a = record {
   made = a.made;
 }
 
-queue_two : (sparing : Bool) (H : List Laid) (s t : Scanner) (zs : List group_t) (q : queue_t) → q.done ≡ t.layout.queue.done → q.early ≡ t.layout.queue.early → q.front ≡ t.layout.queue.front → LaysTwo sparing H s t zs → LaysTwo sparing H s (with_queue t q) zs
+queue_two : (sparing : Bool) (H : List Laid) (s t : Scanner) (zs : List group_t) (q : queue_t) → q.done ≡ t.layout.queue.done → q.early ≡ t.layout.queue.early → q.early_mark ≡ t.layout.queue.early_mark → LaysTwo sparing H s t zs → LaysTwo sparing H s (with_queue t q) zs
 queue_two sparing H s t zs q D E F w = let a = w.0.0 in (
   (
     record { between = a.between; then_queued = a.then_queued; first = a.first; running = a.running; far = a.far; second = queue_advances (laid s.limit H a.first.lexeme ∷ H) (counted a.between) (counted t) zs q D E F a.second },
@@ -124,7 +124,7 @@ module _ (H : List Laid) (s u : Scanner) (k : Kind) (y : group_t) (A : IsLaidAs 
 
     queued : IsPushed u.layout.queue y t.layout.queue → t ≡ with_queue u t.layout.queue → IsLaidBy true H s t (groups_in t) 1
     queued p e =
-        let a : AdvancesWith H s (with_queue u t.layout.queue) (groups_in t) = subst (λ (zs : List group_t). AdvancesWith H s (with_queue u t.layout.queue) zs) (sym p.groups) (queue_advances H s u (groups_in u ++ y ∷ []) t.layout.queue p.done p.early p.front A.advances) in
+        let a : AdvancesWith H s (with_queue u t.layout.queue) (groups_in t) = subst (λ (zs : List group_t). AdvancesWith H s (with_queue u t.layout.queue) zs) (sym p.groups) (queue_advances H s u (groups_in u ++ y ∷ []) t.layout.queue p.done p.early p.early_mark A.advances) in
         subst (λ (z : Scanner). IsLaidBy true H s z (groups_in t) 1) (sym e) (inl (refl, a, FAR))
 
     emptied : waits ≡ false → (tokens : List yaml_token_t) → tokens ≡ group_tokens y → t ≡ set_queue u (one_done u.layout.queue) (u.taken + length tokens) → Empties u (groups_in u ++ y ∷ []) t tokens
@@ -147,14 +147,14 @@ module _ (H : List Laid) (s u : Scanner) (k : Kind) (y : group_t) (A : IsLaidAs 
 
 -- THE LEXEME OF A STEP
 module _ (H : List Laid) (s : Scanner) (r : step_t) (x : yaml_lexeme_t) (c : CanLayAll H s r x) where
-  read_there : IsRead s.text.chars r.kind r.context.depth r.context.level (front_of (source_of s.text.chars) H) x
-  read_there = c.read (front_of (source_of s.text.chars) H) c.can.met.front
+  read_there : IsRead s.text.chars r.kind r.context.depth r.context.level (gap_end_of (source_of s.text.chars) H) x
+  read_there = c.read (gap_end_of (source_of s.text.chars) H) c.can.met.gap_end
 
   pub words_there : (d : unnamed_yaml_token_t_data) → d ≡ x.token_data → HasWords d
-  words_there d e = subst (λ (z : unnamed_yaml_token_t_data). HasWords z) (sym e) (read_has_words s.text.chars r.kind r.context.depth r.context.level (front_of (source_of s.text.chars) H) x read_there)
+  words_there d e = subst (λ (z : unnamed_yaml_token_t_data). HasWords z) (sym e) (read_has_words s.text.chars r.kind r.context.depth r.context.level (gap_end_of (source_of s.text.chars) H) x read_there)
 
   pub says_there : (d : unnamed_yaml_token_t_data) → d ≡ x.token_data → is_last_type (type_of d) ≡ is_stream_end r.kind
-  says_there d e = ap (λ (z : unnamed_yaml_token_t_data). is_last_type (type_of z)) e ∙ (let w = read_says s.text.chars r.kind r.context.depth r.context.level (front_of (source_of s.text.chars) H) x read_there in w.last)
+  says_there d e = ap (λ (z : unnamed_yaml_token_t_data). is_last_type (type_of z)) e ∙ (let w = read_says s.text.chars r.kind r.context.depth r.context.level (gap_end_of (source_of s.text.chars) H) x read_there in w.last)
 
   pub far_there : (m : yaml_mark_t) → m ≡ x.reach → m.index < s.near
   far_there m e = subst (λ (z : yaml_mark_t). z.index < s.near) (sym e) c.far
@@ -217,7 +217,7 @@ module _ (H : List Laid) (s u : Scanner) (direct waits : Bool) (y : group_t) (se
     both_queued : IsPushed u.layout.queue y t.layout.queue → t ≡ with_queue u t.layout.queue → IsPushed t.layout.queue z v.layout.queue → v ≡ with_queue t v.layout.queue → IsLaidBy waits H s v (groups_in v) 2
     both_queued p e q f =
         let G : groups_in v ≡ both = q.groups ∙ ap (λ (ys : List group_t). ys ++ z ∷ []) p.groups ∙ append_assoc (groups_in u) (y ∷ []) (z ∷ []) in
-        let w : LaysTwo waits H s (with_queue u v.layout.queue) (groups_in v) = subst (λ (zs : List group_t). LaysTwo waits H s (with_queue u v.layout.queue) zs) (sym G) (queue_two waits H s u both v.layout.queue (q.done ∙ p.done) (q.early ∙ p.early) (q.front ∙ p.front) B.laid) in
+        let w : LaysTwo waits H s (with_queue u v.layout.queue) (groups_in v) = subst (λ (zs : List group_t). LaysTwo waits H s (with_queue u v.layout.queue) zs) (sym G) (queue_two waits H s u both v.layout.queue (q.done ∙ p.done) (q.early ∙ p.early) (q.early_mark ∙ p.early_mark) B.laid) in
         let F : v ≡ with_queue u v.layout.queue = f ∙ ap (λ (x : Scanner). with_queue x v.layout.queue) e in
         inr (refl, subst (λ (x : Scanner). LaysTwo waits H s x (groups_in v)) (sym F) w)
 

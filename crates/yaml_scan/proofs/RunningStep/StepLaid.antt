@@ -26,7 +26,7 @@ use Rattle.yaml_scan.specs.Laid.{Laid, reach, is_none, Lexeme}
 use Rattle.yaml_scan.specs.Keys.{candidate, live, completed_by}
 use Rattle.yaml_scan.specs.Depth.{depth}
 use Rattle.yaml_scan.specs.Allowed.{allowed, allowed_after, allows}
-use Rattle.yaml_scan.specs.Levels.{laid, is_required, stays, open_columns, kept_columns, level}
+use Rattle.yaml_scan.specs.Levels.{laid, is_required, stays, open_columns, staying_columns, level}
 use Rattle.yaml_scan.specs.Falling.{AllLess, IsFalling}
 use Rattle.yaml_scan.specs.Levels.{greatest_level, greater_of}
 use Rattle.yaml_scan.specs.Order.{IsHistory, IsNotBefore, Follows}
@@ -34,9 +34,9 @@ use Rattle.yaml_scan.specs.Groups.{end_at, offline}
 use Rattle.yaml_scan.specs.Groups.Token.{BlockEnd}
 use Rattle.yaml_scan.specs.inside.Opened.{opened, is_new}
 use Rattle.yaml_scan.specs.inside.Slots.{Held, held, held_of, still_held, lost_held, outer_to, root_of, slot_after}
-use Rattle.yaml_scan.specs.inside.Slots.{completed_held, nested_outer, nested_top, is_level, empty_slots, lowest, step_of}
+use Rattle.yaml_scan.specs.inside.Slots.{completed_held, nested_outer, nested_top, is_level, empty_slots, lowest, held_step}
 use Rattle.yaml_scan.specs.Step.{Outcome, step, unless, stale, required, lost, start_at}
-use Rattle.yaml_scan.specs.Step.{lexeme_of, front_of, place_after}
+use Rattle.yaml_scan.specs.Step.{lexeme_of, gap_end_of, place_after}
 use Rattle.yaml_scan.specs.Step.Outcome.{Reads}
 use Rattle.yaml_scan.specs.Cut.{IsReadInOrder}
 use Rattle.yaml_scan.specs.inside.StepFaults.{IsLost}
@@ -46,7 +46,7 @@ use Rattle.yaml_scan.proofs.History.HistoryOrder.{IsNotBefore-trans, to_start, t
 use Rattle.yaml_scan.proofs.TokenList.NeverRevised.{start_in}
 use Rattle.yaml_scan.proofs.History.KeyCandidates.{candidate-other, candidate-saved, candidate-kept, candidate-cleared, candidate_split}
 use Rattle.yaml_scan.proofs.History.LevelsFall.{open_columns-falls, falling_filter}
-use Rattle.yaml_scan.proofs.RunningQueue.QueueGroups.{front_free}
+use Rattle.yaml_scan.proofs.RunningQueue.QueueGroups.{mark_free}
 use Rattle.yaml_scan.proofs.RunningStep.SlotTests.{completed_later, lost_later, root_is, outer_length}
 use Rattle.yaml_scan.proofs.RunningStep.TestsBefore.{flow_is, mark_is, later, Loses, is_none_some, is_none_map}
 use Rattle.yaml_scan.proofs.RunningStep.ScannerOneOn.{ends_are, levels_more, queue_more, fits, new_is, taken_more, allowed_more, outer_swept, top_swept, nested_outer_is, nested_top_is, candidate_is, allowed_of, at_depth, enters_below, reach_is}
@@ -94,7 +94,7 @@ module _ (limit : ℕ) (H : List Laid) (x : Lexeme) (h : IsHistory limit (laid l
   unfolding stale required
   none_root e = rw e refl
 
-  module _ (a : Bool) (A : a ≡ allowed H x.front) where
+  module _ (a : Bool) (A : a ≡ allowed H x.gap_end) where
     abbrev settled_root : Option Held
     settled_root = root_of (outer_to limit H (depth H)) (slot_after x.kind a (held_of (laid limit H x)) (held limit H (depth H)))
 
@@ -183,42 +183,42 @@ put_in s S a L reach = record {
   allowed = a;
   layout = L;
   reach = reach;
-  front = s.front;
+  gap_end = s.gap_end;
   there = s.there;
   taken = s.taken;
   made = s.made;
 }
 
 module _ (H : List Laid) (N : ℕ) (s : Scanner) {ys : List group_t} (r : HoldsWith H N s ys) (running : ended H ≡ false) (m : Met) (w : IsMet H s m) (in_flow : Bool) (FLOW : in_flow ≡ nat_lt 0 (vec_len s.slots.outer))
-    (start : yaml_mark_t) (START : start ≡ start_at m.kind m.front) where
+    (start : yaml_mark_t) (START : start ≡ start_at m.kind m.gap_end) where
   abbrev S : Source
   S = source_of s.text.chars
 
   abbrev P : ℕ
-  P = front_of S H
+  P = gap_end_of S H
 
-  front_is : m.front ≡ S.mark P
-  front_is = mark_is H N s r running in_flow FLOW m.front w.front
+  gap_end_is : m.gap_end ≡ S.mark P
+  gap_end_is = mark_is H N s r running in_flow FLOW m.gap_end w.gap_end
 
   pub levels_fall : IsFalling (reverse s.layout.levels.items)
   levels_fall = rw r.levels.are_open (open_columns-falls s.limit H r.is_history)
 
-  open_is : filter (stays in_flow m.kind start) (reverse s.layout.levels.items) ≡ kept_columns H m.kind start
-  unfolding kept_columns
+  open_is : filter (stays in_flow m.kind start) (reverse s.layout.levels.items) ≡ staying_columns H m.kind start
+  unfolding staying_columns
   open_is = rw (flow_is H N s r running in_flow FLOW, r.levels.are_open) refl
 
-  kept_less : (k : Kind) (g : yaml_mark_t) → AllLess (length s.text.chars + 1) (kept_columns H k g)
-  unfolding kept_columns
+  kept_less : (k : Kind) (g : yaml_mark_t) → AllLess (length s.text.chars + 1) (staying_columns H k g)
+  unfolding staying_columns
   kept_less k g = less_filter (length s.text.chars + 1) _ (open_columns H) r.levels.columns
 
-  front_within : P ≤ length s.text.chars
-  front_within = w.front.within
+  gap_end_within : P ≤ length s.text.chars
+  gap_end_within = w.gap_end.within
 
-  front_column : m.front.column ≤ length s.text.chars
-  front_column = let t = text_sums s.text.chars P front_within in let q = ap (λ (z : yaml_mark_t). z.column) front_is in let v = front_within in omega arith
+  gap_end_column : m.gap_end.column ≤ length s.text.chars
+  gap_end_column = let t = text_sums s.text.chars P gap_end_within in let q = ap (λ (z : yaml_mark_t). z.column) gap_end_is in let v = gap_end_within in omega arith
 
   module _ (l : List ℕ) (L : reverse l ≡ filter (stays in_flow m.kind start) (reverse s.layout.levels.items)) where
-    l_is : reverse l ≡ kept_columns H m.kind start
+    l_is : reverse l ≡ staying_columns H m.kind start
     l_is = L ∙ open_is
 
     pub l_falls : IsFalling (reverse l)
@@ -226,11 +226,11 @@ module _ (H : List Laid) (N : ℕ) (s : Scanner) {ys : List group_t} (r : HoldsW
 
     module _ (level' : Option ℕ) (LV : level' ≡ greatest_level (reverse l)) (n : ℕ) (D : n ≡ vec_len s.slots.outer) where
       pub level_within : IfSome level' (λ z. z ≤ length s.text.chars)
-      level_within = rw (LV, l_is) (some_less (length s.text.chars) (greatest_level (kept_columns H m.kind start)) (greatest_less (length s.text.chars + 1) (kept_columns H m.kind start) (kept_less m.kind start)))
+      level_within = rw (LV, l_is) (some_less (length s.text.chars) (greatest_level (staying_columns H m.kind start)) (greatest_less (length s.text.chars + 1) (staying_columns H m.kind start) (kept_less m.kind start)))
 
       level_is : level' ≡ level H m.kind (start_at m.kind (S.mark P))
       unfolding level
-      level_is = LV ∙ ap greatest_level l_is ∙ ap (λ (z : yaml_mark_t). greatest_level (kept_columns H m.kind z)) (START ∙ ap (start_at m.kind) front_is)
+      level_is = LV ∙ ap greatest_level l_is ∙ ap (λ (z : yaml_mark_t). greatest_level (staying_columns H m.kind z)) (START ∙ ap (start_at m.kind) gap_end_is)
 
       depth_of : n ≡ depth H
       depth_of = let e = ap (λ (l : List (Option Held)). length l) r.keys.outer in let o = outer_length s.limit H (depth H) in omega arith
@@ -247,28 +247,28 @@ module _ (H : List Laid) (N : ℕ) (s : Scanner) {ys : List group_t} (r : HoldsW
 
       -- row 5
       pub row_offence : (f : Fault) → IsOffence s.text.chars m.kind n level' P f → Offends H s f
-      row_offence f o = record { offence = o.0; step = step_read (Err o.0) o.1; fault = o.2; problem = text_problem s.text.chars r.text m.kind n level' P o.0 front_within kind_there o.1 }
+      row_offence f o = record { offence = o.0; step = step_read (Err o.0) o.1; fault = o.2; problem = text_problem s.text.chars r.text m.kind n level' P o.0 gap_end_within kind_there o.1 }
 
       module _ (b : yaml_lexeme_t) (read : IsRead s.text.chars m.kind n level' P b) where
         abbrev X : Lexeme
-        X = record { kind = m.kind; token_data = b.token_data; front = m.front; start = start; end = b.end_mark; reach = b.reach; place = read.0; passed_break = b.passed_break }
+        X = record { kind = m.kind; token_data = b.token_data; gap_end = m.gap_end; start = start; end = b.end_mark; reach = b.reach; place = read.0; passed_break = b.passed_break }
 
         abbrev R : Reading
         R = reading b read.0
 
         x_is : X ≡ lexeme_of m.kind (S.mark P) R
-        x_is = rw (START, front_is) refl
+        x_is = rw (START, gap_end_is) refl
 
         size_is : S.size ≡ length s.text.chars
         unfolding source_of
         size_is = refl
 
         in_order : IsReadInOrder S m.kind P R
-        in_order = (text_order s.text.chars r.text).reads m.kind n level' P R (let z = size_is in let v = front_within in omega arith) kind_there read.1
+        in_order = (text_order s.text.chars r.text).reads m.kind n level' P R (let z = size_is in let v = gap_end_within in omega arith) kind_there read.1
 
         follows : Follows (reach H) X
         follows = let q : Follows (S.mark P) X = subst (λ (z : Lexeme). Follows (S.mark P) z) (sym x_is) in_order.follows in
-            record { front = later H N s r running in_flow FLOW m.front w.front; start = q.start; at_once = q.at_once; end = q.end; reach = q.reach; takes_a_byte = q.takes_a_byte; takes_a_column = q.takes_a_column; ends_at_column_0 = q.ends_at_column_0 }
+            record { gap_end = later H N s r running in_flow FLOW m.gap_end w.gap_end; start = q.start; at_once = q.at_once; end = q.end; reach = q.reach; takes_a_byte = q.takes_a_byte; takes_a_column = q.takes_a_column; ends_at_column_0 = q.ends_at_column_0 }
 
         pub history : IsHistory s.limit (laid s.limit H X ∷ H)
         unfolding laid
@@ -278,7 +278,7 @@ module _ (H : List Laid) (N : ℕ) (s : Scanner) {ys : List group_t} (r : HoldsW
         place_within = let z = size_is in let v = in_order.within in omega arith
 
         pub index_is : b.reach.index ≡ (S.mark read.0).index
-        index_is = text_reach s.text.chars r.text m.kind n level' P R front_within kind_there read.1
+        index_is = text_reach s.text.chars r.text m.kind n level' P R gap_end_within kind_there read.1
 
         laid_place : place_after (laid s.limit H X ∷ H) ≡ read.0
         unfolding laid
@@ -302,30 +302,30 @@ module _ (H : List Laid) (N : ℕ) (s : Scanner) {ys : List group_t} (r : HoldsW
           c_is : c ≡ option_map held_of (completed_by s.limit H X.kind X.start)
           c_is = C ∙ (rw r.keys.top (completed_later s.limit H r.is_history X.start (to_start follows) X.kind))
 
-          none_early : IsQueue s.text.encoding 0 s.layout.queue.front ys (drop s.taken (offline H))
-          none_early = subst (λ (k : ℕ). IsQueue s.text.encoding k s.layout.queue.front ys (drop s.taken (offline H))) (r.queue.early running) r.queue.tokens
+          none_early : IsQueue s.text.encoding 0 s.layout.queue.early_mark ys (drop s.taken (offline H))
+          none_early = subst (λ (k : ℕ). IsQueue s.text.encoding k s.layout.queue.early_mark ys (drop s.taken (offline H))) (r.queue.early running) r.queue.tokens
 
           pub fitting : Fitting c s.layout.queue.done ys
-          fitting = rw c_is (fits s.limit H X history s.taken r.taken s.text.encoding s.layout.queue.front ys none_early s.layout.queue.done r.queue.count)
+          fitting = rw c_is (fits s.limit H X history s.taken r.taken s.text.encoding s.layout.queue.early_mark ys none_early s.layout.queue.done r.queue.count)
 
           -- the levels
           pub levels_then : (l2 : List ℕ) → reverse l2 ≡ opened in_flow c X.kind X.start (reverse l) → HoldsLevels (length s.text.chars) (laid s.limit H X ∷ H) l2
           levels_then l2 e = record {
             are_open = e ∙ (rw (flow_is H N s r running in_flow FLOW, c_is, l_is) (levels_more s.limit H X history));
             columns = subst (λ (z : List ℕ). AllLess (length s.text.chars + 1) z) (levels_more s.limit H X history)
-                (opened_less s.limit H X (length s.text.chars + 1) (nat_lt 0 (depth H)) (kept_columns H X.kind X.start) (completed_by s.limit H X.kind X.start) refl history follows
-                (rw START (start_less m.kind m.front (length s.text.chars) front_column)) (kept_less X.kind X.start));
+                (opened_less s.limit H X (length s.text.chars + 1) (nat_lt 0 (depth H)) (staying_columns H X.kind X.start) (completed_by s.limit H X.kind X.start) refl history follows
+                (rw START (start_less m.kind m.gap_end (length s.text.chars) gap_end_column)) (kept_less X.kind X.start));
           }
 
           -- the queue
-          pub queue_then : (q : queue_t) (y : group_t) (f : yaml_mark_t) → (is_stream_end m.kind ≡ false → q.early ≡ 0) → (0 < q.early → q.front ≡ f) → q.done ≡ s.layout.queue.done
-              → ends_at q.early f ++ ends_at y.ends start ≡ map (λ z. BlockEnd (end_at m.kind m.front start z)) (filter (λ z. not (stays in_flow m.kind start z)) (reverse s.layout.levels.items))
+          pub queue_then : (q : queue_t) (y : group_t) (f : yaml_mark_t) → (is_stream_end m.kind ≡ false → q.early ≡ 0) → (0 < q.early → q.early_mark ≡ f) → q.done ≡ s.layout.queue.done
+              → ends_at q.early f ++ ends_at y.ends start ≡ map (λ z. BlockEnd (end_at m.kind m.gap_end start z)) (filter (λ z. not (stays in_flow m.kind start z)) (reverse s.layout.levels.items))
               → token_of y.token ≡ record { token_data = b.token_data; start_mark = start; end_mark = b.end_mark } → y.key ≡ false → y.opens ≡ opened_by in_flow c m.kind start.column (reverse l)
               → (zs : List group_t) → zs ≡ completed_in in_flow c (reverse l) s.layout.queue.done ys ++ y ∷ [] → length zs ≡ length ys + 1 → HoldsQueue s.text.encoding s.taken (laid s.limit H X ∷ H) q zs
           queue_then q y f Z F D E Y K O zs V G = record {
-            tokens = front_free s.text.encoding q.early f q.front zs (drop s.taken (offline (laid s.limit H X ∷ H))) F (rw V (rw (flow_is H N s r running in_flow FLOW, c_is, l_is) (queue_more s.limit H X history s.taken r.taken s.text.encoding s.layout.queue.front ys none_early s.layout.queue.done r.queue.count y q.early f
-                (E ∙ ap (λ (f : Bool). map (λ z. BlockEnd (end_at m.kind m.front start z)) (filter (λ z. not (stays f m.kind start z)) (reverse s.layout.levels.items))) (flow_is H N s r running in_flow FLOW)
-                ∙ ap (λ (z : List ℕ). map (λ z. BlockEnd (end_at m.kind m.front start z)) (filter (λ z. not (stays (nat_lt 0 (depth H)) m.kind start z)) z)) r.levels.are_open ∙ ends_are s.limit H X history)
+            tokens = mark_free s.text.encoding q.early f q.early_mark zs (drop s.taken (offline (laid s.limit H X ∷ H))) F (rw V (rw (flow_is H N s r running in_flow FLOW, c_is, l_is) (queue_more s.limit H X history s.taken r.taken s.text.encoding s.layout.queue.early_mark ys none_early s.layout.queue.done r.queue.count y q.early f
+                (E ∙ ap (λ (f : Bool). map (λ z. BlockEnd (end_at m.kind m.gap_end start z)) (filter (λ z. not (stays f m.kind start z)) (reverse s.layout.levels.items))) (flow_is H N s r running in_flow FLOW)
+                ∙ ap (λ (z : List ℕ). map (λ z. BlockEnd (end_at m.kind m.gap_end start z)) (filter (λ z. not (stays (nat_lt 0 (depth H)) m.kind start z)) z)) r.levels.are_open ∙ ends_are s.limit H X history)
                 Y K (O ∙ (rw (flow_is H N s r running in_flow FLOW, c_is, l_is) refl)))));
             count = (let k = r.queue.count in omega arith);
             early = λ e. Z (sym laid_ended ∙ e);
@@ -336,8 +336,8 @@ module _ (H : List Laid) (N : ℕ) (s : Scanner) {ys : List group_t} (r : HoldsW
 
           -- the slots
           module _ (new : Held) (NA : new.step ≡ N) (NS : new.start ≡ start) (NR : new.required ≡ is_level in_flow level' start.column)
-              (a : Bool) (A : a ≡ allowed H m.front) (top' : Option Held) (T : top' ≡ slot_after m.kind a new s.slots.top) where
-            required_then : new.required ≡ is_level (nat_lt 0 (depth H)) (greatest_level (kept_columns H m.kind start)) start.column
+              (a : Bool) (A : a ≡ allowed H m.gap_end) (top' : Option Held) (T : top' ≡ slot_after m.kind a new s.slots.top) where
+            required_then : new.required ≡ is_level (nat_lt 0 (depth H)) (greatest_level (staying_columns H m.kind start)) start.column
             required_then = NR ∙ (rw (flow_is H N s r running in_flow FLOW, LV, l_is) refl)
 
             new_laid : new ≡ held_of (laid s.limit H X)
@@ -370,7 +370,7 @@ module _ (H : List Laid) (N : ℕ) (s : Scanner) {ys : List group_t} (r : HoldsW
             swept_top = ap (λ (z : Option Held). still_held s.limit b.reach z) (T ∙ ap (λ (z : Option Held). slot_after m.kind a new z) r.keys.top) ∙ top_swept s.limit H X history a A new new_laid
 
             pub keys_then : lost_held s.limit b.reach (root_of s.slots.outer.items top') ≡ None → (S : slots_t) → S.outer.items ≡ nested_outer m.kind (map (still_held s.limit b.reach) s.slots.outer.items) (still_held s.limit b.reach top')
-                → S.top ≡ nested_top m.kind (map (still_held s.limit b.reach) s.slots.outer.items) (still_held s.limit b.reach top') → S.not_simple_keys ≡ empty_slots S.outer.items → S.awaited ≡ step_of (lowest (S.outer.items ++ S.top ∷ []))
+                → S.top ≡ nested_top m.kind (map (still_held s.limit b.reach) s.slots.outer.items) (still_held s.limit b.reach top') → S.not_simple_keys ≡ empty_slots S.outer.items → S.awaited ≡ held_step (lowest (S.outer.items ++ S.top ∷ []))
                 → (none : Bool) → is_some c ≡ not none → (may : Bool) → ((d : ℕ) → in_flow ≡ nat_lt 0 d → may ≡ allows X.kind d none X.passed_break) → HoldsKeys s.limit (laid s.limit H X ∷ H) S may
             keys_then lost S O T E W none V may e = record {
               fresh = ap (λ (z : yaml_mark_t). stale s.limit (laid s.limit H X ∷ H) z) (reach_is s.limit H X history) ∙ (let v = agree (root_of s.slots.outer.items top') s.slots.outer.items refl refl _ refl in v.none lost);

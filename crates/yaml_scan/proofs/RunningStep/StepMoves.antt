@@ -45,7 +45,7 @@ stays_on s t u a b = record { same = same_trans s t u a.same b.same; made = b.ma
 pub read_in : (H : List Laid) (s : Scanner) (r : step_t) (t : Scanner) → CanRead H s r → CanRead H (at_there s t) r
 read_in H s r t c = let h = c.can.holds in let e = c.met in let w = c.is_new in record {
   can = record { holds = holds_as H (s.made + 1) s (at_there s t) h refl refl refl refl refl refl h.queue h.taken; running = c.can.running; small = c.can.small; few_steps = c.can.few_steps; near = c.can.near };
-  met = record { front = e.front; allowed = e.allowed; kind = e.kind; step = e.step };
+  met = record { gap_end = e.gap_end; allowed = e.allowed; kind = e.kind; step = e.step };
   is_new = record { flow = w.flow; is_greatest = w.is_greatest; step = w.step; start = w.start; required = w.required };
   depth = c.depth;
   within = c.within;
@@ -54,8 +54,8 @@ read_in H s r t c = let h = c.can.holds in let e = c.met in let w = c.is_new in 
 }
 
 -- a lexeme of one character that was read
-pub read_as_met : (s : Scanner) (k m : Kind) (x : yaml_context_t) (l : yaml_lexeme_t) → m ≡ k → ((p depth : ℕ) (level : Option ℕ) → IsMarkOf s.text.chars s.front p → IsRead s.text.chars k depth level p l)
-    → (p : ℕ) → IsMarkOf s.text.chars s.front p → IsRead s.text.chars m x.depth x.level p l
+pub read_as_met : (s : Scanner) (k m : Kind) (x : yaml_context_t) (l : yaml_lexeme_t) → m ≡ k → ((p depth : ℕ) (level : Option ℕ) → IsMarkOf s.text.chars s.gap_end p → IsRead s.text.chars k depth level p l)
+    → (p : ℕ) → IsMarkOf s.text.chars s.gap_end p → IsRead s.text.chars m x.depth x.level p l
 read_as_met s k m x l e f = λ p i. subst (λ (z : Kind). IsRead s.text.chars z x.depth x.level p l) (sym e) (f p x.depth x.level i)
 
 read_as : (s : Scanner) (k : Kind) (x : yaml_context_t) (t : Scanner) (o : Result code_lexeme_t yaml_refusal_t) → IsReadIn s k x t.there o → IsReadIn (at_there s t) k x t.there o
@@ -125,7 +125,7 @@ pub step_given : (H : List Laid) (s t : Scanner) (direct : Bool) (took took' : L
 step_given H s t direct took took' f refuses (Ok x) w = (w.0, w.1, w.2, w.3, w.4, w.5, f w.0 w.6)
 step_given H s t direct took took' f refuses (Err stop) (inl w) = inl (w.0, f [] w.1)
 step_given H s t direct took took' f refuses (Err stop) (inr w) = let c = w.1 in let k = c.6 in
-    inr (w.0, (c.0, c.1, c.2, c.3, c.4, c.5, record { front = k.front; next = k.next; begins = k.begins; given = f k.front k.given }), w.2)
+    inr (w.0, (c.0, c.1, c.2, c.3, c.4, c.5, record { handed = k.handed; next = k.next; begins = k.begins; given = f k.handed k.given }), w.2)
 
 -- what was not touched is as it was
 pub on_ok_same : (A : Type 0) (o : Result (Unit {0}) stop_t) → OnOk o (A → A)
@@ -155,7 +155,7 @@ pub stop_from : (H : List Laid) (s t u : Scanner) (stop : stop_t) → Stays s t 
 stop_from H s t u stop e w = refuses_from H s t u stop e w
 
 -- ROOM
-pub ready : (H : List Laid) (s t : Scanner) (in_flow : Bool) (k : Kind) → Comes H s in_flow k → IsMet H s (record { kind = k; front = s.front; allowed = allowed_in s in_flow }) → Beside s t
+pub ready : (H : List Laid) (s t : Scanner) (in_flow : Bool) (k : Kind) → Comes H s in_flow k → IsMet H s (record { kind = k; gap_end = s.gap_end; allowed = allowed_in s in_flow }) → Beside s t
     → (r : step_t) → HasRoom t r.in_flow r.kind → r.kind ≡ k → r.allowed ≡ allowed_in s in_flow → IsNewHeld t (met_in t r) r.in_flow r.context.level r.new → r.context.depth ≡ vec_len t.slots.outer → CanRead H t r
 ready H s t in_flow k w m b r room K A new d =
     let c = w.passes.can in
@@ -167,8 +167,8 @@ ready H s t in_flow k w m b r room K A new d =
       near = rw (b.refusal, b.text, b.near) c.near;
     } in
     let met : IsMet H t (met_in t r) = record {
-      front = rw (b.text, b.front) m.front;
-      allowed = A ∙ (rw b.front m.allowed);
+      gap_end = rw (b.text, b.gap_end) m.gap_end;
+      allowed = A ∙ (rw b.gap_end m.allowed);
       kind = rw (b.text, K) m.kind;
       step = rw (b.text, b.limit, K) m.step;
     } in

@@ -20,7 +20,7 @@ use Rattle.yaml_scan.specs.Keys.{only_live, completed_by}
 use Rattle.yaml_scan.specs.Allowed.{allowed, allowed_after}
 use Rattle.yaml_scan.specs.Order.{IsNotBefore}
 use Rattle.yaml_scan.specs.Step.{Outcome, step, unless, refuse, stale, required, refused, clears}
-use Rattle.yaml_scan.specs.Step.{lost, no_kind, not_allowed, problem_of, replaces, start_at, front_of, place_after}
+use Rattle.yaml_scan.specs.Step.{lost, no_kind, not_allowed, problem_of, replaces, start_at, gap_end_of, place_after}
 use Rattle.yaml_scan.specs.Step.Outcome.{Faults}
 use Rattle.yaml_scan.specs.inside.StepFaults.{IsLost, IsRefused}
 use Rattle.yaml_scan.specs.inside.Scanning.{HoldsWith, Offends}
@@ -73,11 +73,11 @@ module _ (H : List Laid) (n : ℕ) (s : Scanner) {ys : List group_t} (r : HoldsW
   S = source_of s.text.chars
 
   abbrev P : ℕ
-  P = front_of S H
+  P = gap_end_of S H
 
   -- where the gap ends
-  pub front_mark : (g : yaml_mark_t) → IsMarkOf s.text.chars g (S.gap in_flow s.allowed (place_after H)) → IsMarkOf s.text.chars g P
-  front_mark g i = subst (λ (f : Bool). IsMarkOf s.text.chars g (S.gap f (allowed_after H) (place_after H))) flow_is (subst (λ (a : Bool). IsMarkOf s.text.chars g (S.gap in_flow a (place_after H))) r.keys.allowed i)
+  pub gap_end_mark : (g : yaml_mark_t) → IsMarkOf s.text.chars g (S.gap in_flow s.allowed (place_after H)) → IsMarkOf s.text.chars g P
+  gap_end_mark g i = subst (λ (f : Bool). IsMarkOf s.text.chars g (S.gap f (allowed_after H) (place_after H))) flow_is (subst (λ (a : Bool). IsMarkOf s.text.chars g (S.gap in_flow a (place_after H))) r.keys.allowed i)
 
   module _ (g : yaml_mark_t) (G : IsMarkOf s.text.chars g P) where
     pub mark_is : g ≡ S.mark P

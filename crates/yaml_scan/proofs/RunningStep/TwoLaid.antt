@@ -21,7 +21,7 @@ use Rattle.yaml_scan.specs.Levels.{greatest_level, laid, stays}
 use Rattle.yaml_scan.specs.Order.{IsNotBefore}
 use Rattle.yaml_scan.specs.Settled.{before}
 use Rattle.yaml_scan.specs.SourceOf.{source_of}
-use Rattle.yaml_scan.specs.Step.{front_of, place_after, problem_of, replaces}
+use Rattle.yaml_scan.specs.Step.{gap_end_of, place_after, problem_of, replaces}
 use Rattle.yaml_scan.specs.inside.Handed.{IsLaidAs}
 use Rattle.yaml_scan.specs.inside.Queue.{begins_with_end, pending}
 use Rattle.yaml_scan.specs.inside.Scanning.{AdvancesTwice, CanLayAll, CanPut, HoldsWith, IsMet, LaysTwo, Met, Needs, counted, met_in}
@@ -35,20 +35,20 @@ use Rattle.yaml_scan.proofs.RunningQueue.HeadIsNext.{head_tested}
 use Rattle.yaml_scan.proofs.RunningStep.StepLaid.{history, place_then, put_in}
 use Rattle.yaml_scan.proofs.RunningStep.HeldBeside.{counted_holds}
 use Rattle.yaml_scan.proofs.RunningStep.StepPut.{IsPut, put_advances}
-use Rattle.yaml_scan.proofs.RunningStep.TestsBefore.{allowed_is, flow_is, front_mark, kind_is, root_held, row_met}
+use Rattle.yaml_scan.proofs.RunningStep.TestsBefore.{allowed_is, flow_is, gap_end_mark, kind_is, root_held, row_met}
 
 pub and_not : (b : Bool) → (b && false) ≡ false
 and_not true = refl
 and_not false = refl
 
 -- it needs more steps while the head of the queue is that of the lowest candidate
-module _ (H : List Laid) (n : ℕ) (s : Scanner) (zs : List group_t) (h : HoldsWith H n s zs) (SOME : 0 < length zs) (AWAITED : s.slots.awaited ≡ s.layout.queue.done + 1) (ENDS : begins_with_end (pending s.layout.queue.early s.layout.queue.front zs) ≡ false) where
+module _ (H : List Laid) (n : ℕ) (s : Scanner) (zs : List group_t) (h : HoldsWith H n s zs) (SOME : 0 < length zs) (AWAITED : s.slots.awaited ≡ s.layout.queue.done + 1) (ENDS : begins_with_end (pending s.layout.queue.early s.layout.queue.early_mark zs) ≡ false) where
   pub unsettled : length (before s.limit H) ≤ s.taken
   unsettled =
       let q = s.layout.queue in
       let some : false ≡ eqb (length zs) 0 = sym (ne_eqb _ _ (λ e. absurd (omega arith))) in
       let test = head_tested H n s zs h false some in
-      let here : not (eqb s.slots.awaited (q.done + 1) && not (begins_with_end (pending q.early q.front zs))) ≡ false = rw (ENDS, eq-eqb _ _ AWAITED) refl in
+      let here : not (eqb s.slots.awaited (q.done + 1) && not (begins_with_end (pending q.early q.early_mark zs))) ≡ false = rw (ENDS, eq-eqb _ _ AWAITED) refl in
       ltb-false _ _ (sym test ∙ here)
 
 -- WHAT DECIDES
@@ -64,28 +64,28 @@ module _ (H : List Laid) (s : Scanner) (r : step_t) (x : yaml_lexeme_t) (c : Can
   abbrev cs : List ℕ
   cs = reverse s.layout.levels.items
 
-  abbrev kept : List ℕ
-  kept = filter (stays r.in_flow r.kind r.new.start) cs
+  abbrev left : List ℕ
+  left = filter (stays r.in_flow r.kind r.new.start) cs
 
-  level_is : r.context.level ≡ greatest_level (reverse (reverse kept))
-  level_is = c.can.is_new.is_greatest ∙ ap greatest_level (sym (reverse-reverse kept))
+  level_is : r.context.level ≡ greatest_level (reverse (reverse left))
+  level_is = c.can.is_new.is_greatest ∙ ap greatest_level (sym (reverse-reverse left))
 
-  read : IsRead s.text.chars r.kind r.context.depth r.context.level (front_of (source_of s.text.chars) H) x
-  read = c.read (front_of (source_of s.text.chars) H) c.can.met.front
+  read : IsRead s.text.chars r.kind r.context.depth r.context.level (gap_end_of (source_of s.text.chars) H) x
+  read = c.read (gap_end_of (source_of s.text.chars) H) c.can.met.gap_end
 
   -- where it ends
   pub read_place : (p : ℕ) × IsMarkOf s.text.chars x.reach p
   unfolding laid
   read_place = (
     _,
-    place_then H (s.made + 1) s c.can.can.holds c.can.can.running (met_in s r) c.can.met r.in_flow c.can.is_new.flow r.new.start c.can.is_new.start (reverse kept) (reverse-reverse kept) r.context.level level_is r.context.depth c.can.depth x read
+    place_then H (s.made + 1) s c.can.can.holds c.can.can.running (met_in s r) c.can.met r.in_flow c.can.is_new.flow r.new.start c.can.is_new.start (reverse left) (reverse-reverse left) r.context.level level_is r.context.depth c.can.depth x read
         (candidate_not_end r.kind q),
   )
 
   pub reach_later : IsNotBefore r.new.start x.reach
   unfolding laid
   reach_later =
-      let f = history H (s.made + 1) s c.can.can.holds c.can.can.running (met_in s r) c.can.met r.in_flow c.can.is_new.flow r.new.start c.can.is_new.start (reverse kept) (reverse-reverse kept) r.context.level level_is r.context.depth c.can.depth x read in
+      let f = history H (s.made + 1) s c.can.can.holds c.can.can.running (met_in s r) c.can.met r.in_flow c.can.is_new.flow r.new.start c.can.is_new.start (reverse left) (reverse-reverse left) r.context.level level_is r.context.depth c.can.depth x read in
       to_reach f.1
 
 -- ONE AFTER THE OTHER
@@ -95,15 +95,15 @@ between_of s r x top awaited L = put_in s (record { outer = s.slots.outer; not_s
 
 -- the lexeme of kind k right after it
 abbrev pub met_after : step_t → yaml_lexeme_t → Kind → Met
-met_after r x k = record { kind = k; front = x.reach; allowed = (is_plain r.kind && x.passed_break) || (not r.in_flow && nat_lt x.reach.line x.reach.line) }
+met_after r x k = record { kind = k; gap_end = x.reach; allowed = (is_plain r.kind && x.passed_break) || (not r.in_flow && nat_lt x.reach.line x.reach.line) }
 
 -- the greatest level that it keeps
 abbrev pub level_after : step_t → Kind → yaml_mark_t → layout_t → Option ℕ
-level_after r k front L = greatest_level (filter (stays r.in_flow k front) (reverse L.levels.items))
+level_after r k gap_end L = greatest_level (filter (stays r.in_flow k gap_end) (reverse L.levels.items))
 
--- what is kept of it
+-- what is left of it
 abbrev pub new_after : Scanner → step_t → Kind → yaml_mark_t → layout_t → Held
-new_after s r k front L = record { step = s.made + 1 + 1; start = front; required = is_level r.in_flow (level_after r k front L) front.column }
+new_after s r k gap_end L = record { step = s.made + 1 + 1; start = gap_end; required = is_level r.in_flow (level_after r k gap_end L) gap_end.column }
 
 module _ (H : List Laid) (s : Scanner) (r : step_t) (x : yaml_lexeme_t) (c : CanLayAll H s r x) (k : Kind) (y : yaml_lexeme_t) (top : Option Held) (awaited : ℕ) (L : layout_t) (zs : List group_t)
     (first : IsLaidAs H s r.kind (between_of s r x top awaited L) zs) (LAST : is_stream_end r.kind ≡ false) (D : (p : ℕ) → IsMarkOf s.text.chars x.reach p → IsDecider s.text.chars r.in_flow p k y)
@@ -122,28 +122,28 @@ module _ (H : List Laid) (s : Scanner) (r : step_t) (x : yaml_lexeme_t) (c : Can
   then_holds : HoldsWith H1 (s.made + 1 + 1) between zs
   then_holds = counted_holds H1 (s.made + 1 + 1) (between_of s r x top awaited L) zs first.advances.holds
 
-  abbrev front : yaml_mark_t
-  front = x.reach
+  abbrev gap_end : yaml_mark_t
+  gap_end = x.reach
 
   abbrev met : Met
   met = met_after r x k
 
-  at_front : IsMarkOf s.text.chars front (place_after H1)
-  at_front = then_holds.place then_running
+  at_gap_end : IsMarkOf s.text.chars gap_end (place_after H1)
+  at_gap_end = then_holds.place then_running
 
   decider : IsDecider s.text.chars r.in_flow (place_after H1) k y
-  decider = D (place_after H1) at_front
+  decider = D (place_after H1) at_gap_end
 
-  then_front : IsMarkOf s.text.chars front (front_of (source_of s.text.chars) H1)
-  then_front = front_mark H1 (s.made + 1 + 1) between then_holds then_running r.in_flow c.can.is_new.flow front (rw (decider.gap between.allowed) at_front)
+  then_gap_end : IsMarkOf s.text.chars gap_end (gap_end_of (source_of s.text.chars) H1)
+  then_gap_end = gap_end_mark H1 (s.made + 1 + 1) between then_holds then_running r.in_flow c.can.is_new.flow gap_end (rw (decider.gap between.allowed) at_gap_end)
 
-  front_is : front_of (source_of s.text.chars) H1 ≡ place_after H1
-  front_is =
+  gap_end_is : gap_end_of (source_of s.text.chars) H1 ≡ place_after H1
+  gap_end_is =
       let flow : r.in_flow ≡ nat_lt 0 (depth H1) = flow_is H1 (s.made + 1 + 1) between then_holds then_running r.in_flow c.can.is_new.flow in
       subst (λ (f : Bool). (source_of s.text.chars).gap f (allowed_after H1) (place_after H1) ≡ place_after H1) flow (decider.gap (allowed_after H1))
 
-  kind_then : Some k ≡ (source_of s.text.chars).kind r.in_flow (front_of (source_of s.text.chars) H1)
-  kind_then = rw front_is (sym decider.kind)
+  kind_then : Some k ≡ (source_of s.text.chars).kind r.in_flow (gap_end_of (source_of s.text.chars) H1)
+  kind_then = rw gap_end_is (sym decider.kind)
 
   abbrev root : Option Held
   root = root_of s.slots.outer.items top
@@ -151,33 +151,33 @@ module _ (H : List Laid) (s : Scanner) (r : step_t) (x : yaml_lexeme_t) (c : Can
   root_then : root ≡ held s.limit H1 0
   root_then = root_held H1 (s.made + 1 + 1) between then_holds then_running r.in_flow c.can.is_new.flow root s.slots.outer.items refl refl
 
-  start_then : front ≡ Rattle.yaml_scan.specs.Step.start_at k front
+  start_then : gap_end ≡ Rattle.yaml_scan.specs.Step.start_at k gap_end
   start_then = rw (decider_not_end r.in_flow k decider.decides) refl
 
   then_met : IsMet H1 between met
   then_met = record {
-    front = then_front;
-    allowed = allowed_is H1 (s.made + 1 + 1) between then_holds then_running r.in_flow c.can.is_new.flow front then_front root (lost_held s.limit front root) root_then refl NOW (Some k) kind_then k refl met.allowed refl;
-    kind = sym (kind_is H1 (s.made + 1 + 1) between then_holds then_running r.in_flow c.can.is_new.flow front then_front root (lost_held s.limit front root) root_then refl NOW (Some k) kind_then);
-    step = row_met H1 (s.made + 1 + 1) between then_holds then_running r.in_flow c.can.is_new.flow front then_front root (lost_held s.limit front root) root_then refl NOW (Some k) kind_then k refl met.allowed refl
-        (completed_held k s.limit front top) refl none C OK front start_then None (rw (clears_none r.in_flow k met.allowed decider.decides) refl) refl;
+    gap_end = then_gap_end;
+    allowed = allowed_is H1 (s.made + 1 + 1) between then_holds then_running r.in_flow c.can.is_new.flow gap_end then_gap_end root (lost_held s.limit gap_end root) root_then refl NOW (Some k) kind_then k refl met.allowed refl;
+    kind = sym (kind_is H1 (s.made + 1 + 1) between then_holds then_running r.in_flow c.can.is_new.flow gap_end then_gap_end root (lost_held s.limit gap_end root) root_then refl NOW (Some k) kind_then);
+    step = row_met H1 (s.made + 1 + 1) between then_holds then_running r.in_flow c.can.is_new.flow gap_end then_gap_end root (lost_held s.limit gap_end root) root_then refl NOW (Some k) kind_then k refl met.allowed refl
+        (completed_held k s.limit gap_end top) refl none C OK gap_end start_then None (rw (clears_none r.in_flow k met.allowed decider.decides) refl) refl;
   }
 
-  then_can : CanPut H1 between zs met r.in_flow (new_after s r k front L) y
+  then_can : CanPut H1 between zs met r.in_flow (new_after s r k gap_end L) y
   then_can = record {
     can = record { holds = then_holds; running = then_running; small = c.can.can.small; few_steps = (let f = c.can.can.few_steps in omega arith); met = then_met };
-    level = level_after r k front L;
+    level = level_after r k gap_end L;
     is_new = record { flow = c.can.is_new.flow; is_greatest = refl; step = refl; start = start_then; required = refl };
-    read = rw front_is (decider.read (vec_len s.slots.outer) (level_after r k front L));
-    kept = rw (decider_not_candidate r.in_flow k decider.decides) LATER;
+    read = rw gap_end_is (decider.read (vec_len s.slots.outer) (level_after r k gap_end L));
+    none_lost = rw (decider_not_candidate r.in_flow k decider.decides) LATER;
   }
 
   -- with what changes of levels, queue and slots for the second one
-  pub lays_two : (sparing : Bool) → (sparing ≡ true → length (before s.limit H1) ≤ s.taken) → (S : slots_t) (a : Bool) (M : layout_t) (ys : List group_t) → IsPut between zs met r.in_flow (new_after s r k front L) y S a M ys → y.reach.index < s.near
+  pub lays_two : (sparing : Bool) → (sparing ≡ true → length (before s.limit H1) ≤ s.taken) → (S : slots_t) (a : Bool) (M : layout_t) (ys : List group_t) → IsPut between zs met r.in_flow (new_after s r k gap_end L) y S a M ys → y.reach.index < s.near
       → (vs : List group_t) → vs ≡ ys → (t : Scanner) → counted t ≡ put_in between S a M y.reach → LaysTwo sparing H s t vs
   lays_two sparing needed S a M ys q far vs V t T =
       let after : Scanner = put_in between S a M y.reach in
-      let second = put_advances H1 between zs met r.in_flow (new_after s r k front L) y then_can S a M ys q in
+      let second = put_advances H1 between zs met r.in_flow (new_after s r k gap_end L) y then_can S a M ys q in
       let b : AdvancesTwice H s after ys = record { between = between_of s r x top awaited L; then_queued = zs; first = first.advances; running = then_running; far = c.far; second = second.advances } in
       let w : (b : AdvancesTwice H s after ys) × Needs sparing H s after ys b = (b, needed) in (
         subst (λ (z : List group_t). (b : AdvancesTwice H s (counted t) z) × Needs sparing H s (counted t) z b) (sym V)

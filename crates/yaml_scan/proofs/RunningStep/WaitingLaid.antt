@@ -23,7 +23,7 @@ use Rattle.yaml_scan.specs.inside.Handed.{IsLaidAs}
 use Rattle.yaml_scan.specs.inside.Opened.{opened}
 use Rattle.yaml_scan.specs.inside.Queue.{begins_with_end, completed_in, keyed, keyed_at, opened_by, pending}
 use Rattle.yaml_scan.specs.inside.Scanning.{CanLayAll, CanPut, Holds, IsFollowed, IsFollower, IsWaiting, LaysTwo, Waits, counted, groups_in, met_in}
-use Rattle.yaml_scan.specs.inside.Slots.{AreEmptyBelow, AreNested, Held, completed_held, empty_slots, is_live, lost_held, lowest, nested_outer, nested_top, or_top, root_of, slot_after, step_of, still_held}
+use Rattle.yaml_scan.specs.inside.Slots.{AreEmptyBelow, AreNested, Held, completed_held, empty_slots, is_live, lost_held, lowest, nested_outer, nested_top, or_top, root_of, slot_after, held_step, still_held}
 use Rattle.yaml_scan.specs.inside.TextReads.{IsDecider}
 use Rattle.yaml_scan.proofs.History.KindTests.{candidate_invites_none, candidate_not_end, candidate_not_flow_end, candidate_not_key, candidate_not_value}
 use Rattle.yaml_scan.proofs.History.KindTests.{decider_no_start, decider_not_candidate}
@@ -36,10 +36,10 @@ use Rattle.yaml_scan.proofs.RunningStep.StepTests.{can_put}
 
 -- THE NEXT TOKEN
 -- a group that is a token alone, after others, changes nothing of what is next
-ends_after : (front : yaml_mark_t) (ys : List group_t) (token : yaml_token_t) → begins_with_end (pending 0 front ys) ≡ false → begins_with_end (pending 0 front (ys ++ record { ends = 0; opens = NONE; key = false; token = token } ∷ [])) ≡ false
-ends_after front [] token e = refl
-ends_after front (y ∷ []) token e = e
-ends_after front (y ∷ (z ∷ ys)) token e = e
+ends_after : (early_mark : yaml_mark_t) (ys : List group_t) (token : yaml_token_t) → begins_with_end (pending 0 early_mark ys) ≡ false → begins_with_end (pending 0 early_mark (ys ++ record { ends = 0; opens = NONE; key = false; token = token } ∷ [])) ≡ false
+ends_after early_mark [] token e = refl
+ends_after early_mark (y ∷ []) token e = e
+ends_after early_mark (y ∷ (z ∷ ys)) token e = e
 
 -- LEVELS IN FLOW
 flow_keeps : (k : Kind) (m : yaml_mark_t) (cs : List ℕ) → filter (stays true k m) cs ≡ cs
@@ -205,10 +205,10 @@ module _ (H : List Laid) (s : Scanner) (r : step_t) (x : yaml_lexeme_t) (c : Can
 
     first : IsLaidAs H s r.kind between (ys ++ group ∷ [])
     first = put_advances H s ys (met_in s r) r.in_flow new x canput between.slots between.allowed s.layout (ys ++ group ∷ []) record {
-      kept = s.layout.levels.items;
-      kept_is = rw u.flow (sym (flow_keeps r.kind new.start ls));
+      left = s.layout.levels.items;
+      left_is = rw u.flow (sym (flow_keeps r.kind new.start ls));
       early = λ z. early;
-      front = λ z. absurd (let e = early in omega arith);
+      early_mark = λ z. absurd (let e = early in omega arith);
       completed = None;
       completed_is = rw (candidate_not_value r.kind u.candidate) refl;
       none = true;
@@ -225,7 +225,7 @@ module _ (H : List Laid) (s : Scanner) (r : step_t) (x : yaml_lexeme_t) (c : Can
       outer = rw (u.stays, candidate_not_flow_end r.kind u.candidate, live_then) refl;
       top = rw (u.stays, candidate_not_flow_end r.kind u.candidate) top_is;
       empty = h.keys.empty;
-      awaited = h.keys.awaited ∙ ap step_of (low r.kind u.stays outer d.outer.0 first_held s.slots.top ∙ sym (low r.kind u.stays outer d.outer.0 first_held then_top));
+      awaited = h.keys.awaited ∙ ap held_step (low r.kind u.stays outer d.outer.0 first_held s.slots.top ∙ sym (low r.kind u.stays outer d.outer.0 first_held then_top));
       allows = λ n e. rw (candidate_invites_none r.kind u.candidate u.stays, candidate_not_key r.kind u.candidate, candidate_not_value r.kind u.candidate, and_not (nat_eq n 0)) refl;
     }
 
@@ -235,24 +235,24 @@ module _ (H : List Laid) (s : Scanner) (r : step_t) (x : yaml_lexeme_t) (c : Can
 
     then_needed : length (before s.limit H1) ≤ s.taken
     then_needed = unsettled H1 (s.made + 1 + 1) between (ys ++ group ∷ []) first.advances.holds (let l = length-append ys (group ∷ []) in omega arith) u.awaited
-        (rw early (ends_after s.layout.queue.front ys token (rw early at u.ends)))
+        (rw early (ends_after s.layout.queue.early_mark ys token (rw early at u.ends)))
 
     -- what comes right after it
-    abbrev front : yaml_mark_t
-    front = x.reach
+    abbrev gap_end : yaml_mark_t
+    gap_end = x.reach
 
     decides_it : decides r.in_flow k ≡ true
     decides_it = let i = read_place H s r x c u.candidate in (d.decider i.0 i.1).decides
 
-    not_lost : lost_held s.limit front (root_of outer then_top) ≡ None
-    not_lost = root_kept s.limit front outer then_top s.slots.not_simple_keys d.outer.0 d.outer.1.0 live_then
+    not_lost : lost_held s.limit gap_end (root_of outer then_top) ≡ None
+    not_lost = root_kept s.limit gap_end outer then_top s.slots.not_simple_keys d.outer.0 d.outer.1.0 live_then
 
     -- the lexeme is a key if a key is allowed and a `:` comes after it
     abbrev key : Bool
     key = r.allowed && is_value k
 
     abbrev completed : Option Held
-    completed = completed_held k s.limit front then_top
+    completed = completed_held k s.limit gap_end then_top
 
     completed_so : completed ≡ (if key then Some new else None)
     completed_so = elim (cases_Bool r.allowed) [
@@ -266,7 +266,7 @@ module _ (H : List Laid) (s : Scanner) (r : step_t) (x : yaml_lexeme_t) (c : Can
     at_last : new.step - 1 - s.layout.queue.done ≡ length ys
     at_last = let e = c.can.is_new.step in let n = h.number in let z = h.queue.count in omega arith
 
-    module _ (value : yaml_token_t) (SAYS : token_of value ≡ record { token_data = y.token_data; start_mark = front; end_mark = y.end_mark })
+    module _ (value : yaml_token_t) (SAYS : token_of value ≡ record { token_data = y.token_data; start_mark = gap_end; end_mark = y.end_mark })
         (S : slots_t) (OUTER : S.outer.items ≡ nested_outer k outer None) (TOP : S.top ≡ nested_top k outer None) (EMPTY : S.not_simple_keys ≡ s.slots.not_simple_keys) (AWAITED : S.awaited ≡ s.slots.awaited)
         (a : Bool) (ALLOWED : (n : ℕ) → r.in_flow ≡ nat_lt 0 n → a ≡ allows k n (not key) false) where
       abbrev pub after : Scanner
@@ -287,28 +287,28 @@ module _ (H : List Laid) (s : Scanner) (r : step_t) (x : yaml_lexeme_t) (c : Can
 
       second : IsPut (counted between) (ys ++ group ∷ []) (met_after r x k) r.in_flow (new_after s r k x.reach s.layout) y S a s.layout (ys ++ keyed_group ∷ (last ∷ []))
       second = record {
-        kept = s.layout.levels.items;
-        kept_is = rw u.flow (sym (flow_keeps k front ls));
+        left = s.layout.levels.items;
+        left_is = rw u.flow (sym (flow_keeps k gap_end ls));
         early = λ z. early;
-        front = λ z. absurd (let e = early in omega arith);
+        early_mark = λ z. absurd (let e = early in omega arith);
         completed = completed;
         completed_is = refl;
         none = not key;
         none_is = completes;
         group = last;
-        ends_are = rw (early, u.flow, flow_closes_none k front ls) refl;
+        ends_are = rw (early, u.flow, flow_closes_none k gap_end ls) refl;
         token = SAYS;
         key = refl;
-        opens = rw u.flow (sym (flow_opens_none completed k front.column ls));
-        levels = rw u.flow (sym (flow_opened completed k front ls));
+        opens = rw u.flow (sym (flow_opens_none completed k gap_end.column ls));
+        levels = rw u.flow (sym (flow_opened completed k gap_end ls));
         groups = groups_then;
         long = (let l = length-append ys (keyed_group ∷ (last ∷ [])) in let m = length-append ys (group ∷ []) in omega arith);
         done = refl;
         outer = OUTER ∙ (rw (decider_not_candidate r.in_flow k decides_it, live_after) refl);
         top = TOP ∙ (rw (decider_not_candidate r.in_flow k decides_it, live_after) refl);
         empty = EMPTY ∙ h.keys.empty ∙ sym (ap empty_slots OUTER ∙ nested_empties k (decider_no_start r.in_flow k decides_it) outer d.outer.0 first_held);
-        awaited = AWAITED ∙ h.keys.awaited ∙ ap step_of (low k (decider_no_start r.in_flow k decides_it) outer d.outer.0 first_held s.slots.top)
-            ∙ (rw (OUTER, TOP) (sym (ap step_of (nested_lowest k (decider_no_start r.in_flow k decides_it) outer d.outer.0 first_held))));
+        awaited = AWAITED ∙ h.keys.awaited ∙ ap held_step (low k (decider_no_start r.in_flow k decides_it) outer d.outer.0 first_held s.slots.top)
+            ∙ (rw (OUTER, TOP) (sym (ap held_step (nested_lowest k (decider_no_start r.in_flow k decides_it) outer d.outer.0 first_held))));
         allows = λ n e. ALLOWED n e ∙ allows_same r.in_flow k n (not key) y.passed_break decides_it;
       }
 

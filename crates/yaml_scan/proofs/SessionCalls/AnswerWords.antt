@@ -44,7 +44,7 @@ use Rattle.yaml_scan.specs.Groups.Token.{OfLexeme}
 use Rattle.yaml_scan.specs.Source.{Source, Reading, Offence}
 use Rattle.yaml_scan.specs.SourceOf.{source_of, reading_of}
 use Rattle.yaml_scan.specs.Step.{Outcome, step, unless, refuse, stale, refused}
-use Rattle.yaml_scan.specs.Step.{clears, start_at, front_of, lexeme_of}
+use Rattle.yaml_scan.specs.Step.{clears, start_at, gap_end_of, lexeme_of}
 use Rattle.yaml_scan.specs.Step.Outcome.{Reads, Faults}
 use Rattle.yaml_scan.specs.Answers.{answers}
 use Rattle.yaml_scan.specs.Near.{starts_near, is_near, place_of, unless_near}
@@ -183,7 +183,7 @@ module _ (S : Source) (s : SourceTold S) (limit : ℕ) (H : List Laid) where
   step_told : OutcomeTold (step S limit H)
   unfolding step read_step
   step_told =
-      let p = front_of S H in
+      let p = gap_end_of S H in
       let k = S.kind (nat_lt 0 (depth H)) p in
       unless_told (stale limit H (S.mark p)) (S.mark p) p (kind_step S limit H p k) (kind_told p k)
 

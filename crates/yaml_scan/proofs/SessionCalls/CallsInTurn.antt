@@ -3,7 +3,7 @@ use Rattle.std.proofs.Common.{◌≡◌, ℕ, zero, suc, ◌+◌, ◌<◌, List,
 use Rattle.yaml_scan.specs.Decoded.{decoded_input}
 use Rattle.yaml_scan.specs.Session.{Call}
 use Rattle.yaml_scan.specs.Parser.{Parser}
-use Rattle.yaml_scan.specs.ParserCalls.{IsRefusedEarly, input_read, call_of}
+use Rattle.yaml_scan.specs.ParserCalls.{IsRefusedAtStart, input_read, call_of}
 use Rattle.yaml_scan.specs.Headline.{Calls, Runs, PutsAnswers}
 use Rattle.yaml_scan.specs.Puts.{after_calls, PutsSession, OfSession}
 use Rattle.yaml_scan.specs.declared.calls.yaml_call_t.{yaml_call_t}
@@ -40,7 +40,7 @@ one_put p calls call old out q answer r g s = record {
 }
 
 -- a reader's fault instead of the first step, in UTF-8, takes no memory
-pub puts_session : (p : Parser) (calls : List Call) (old out : List yaml_answer_t) (q : Parser) → PutsAnswers decoded_input p calls old out q → IsRefusedEarly (input_read p) → PutsSession p calls old out q
+pub puts_session : (p : Parser) (calls : List Call) (old out : List yaml_answer_t) (q : Parser) → PutsAnswers decoded_input p calls old out q → IsRefusedAtStart (input_read p) → PutsSession p calls old out q
 puts_session p calls old out q g e = go (of_session p calls (map seen_of g.more) q g.runs)
   where
     go : OfSession p calls (map seen_of g.more) q → PutsSession p calls old out q

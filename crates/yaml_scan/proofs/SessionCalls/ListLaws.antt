@@ -8,7 +8,7 @@ use Rattle.yaml_scan.specs.Begins.{Begins}
 use Rattle.yaml_scan.specs.Inputs.{answers_to}
 use Rattle.yaml_scan.specs.Decoded.{decoded_input}
 use Rattle.yaml_scan.specs.AnswerLaws.{StandInOrder, ends_among, starts_among, AreFollowed, of_text_among, tokens_of_cut, EndsAs, EndsAsFront}
-use Rattle.yaml_scan.specs.ParserCalls.{IsRefusedEarly}
+use Rattle.yaml_scan.specs.ParserCalls.{IsRefusedAtStart}
 use Rattle.yaml_scan.specs.All.{AllOf, ReadsAll, EndNoMore, EndAll, TellLexemes, TellFault, depth_of}
 use Rattle.yaml_scan.proofs.TokenList.NeverRevised.{Begins-trans}
 use Rattle.yaml_scan.proofs.Course.InputLaws.{inputs_keep_order, all_stand_in_order, all_end_fewer, all_end_all, all_follow_keys}
@@ -89,6 +89,6 @@ module _ (limit : ℕ) (setting : yaml_encoding_t) (input : List ℕ) (tokens : 
   reads_fault (inr r) = inr r.1
 
   -- no memory is refused if the input is refused so early
-  pub reads_early : ReadsAll limit setting input tokens fault → IsRefusedEarly (decoded_input setting input) → AllOf (answers_to limit setting input) tokens fault
-  reads_early (inl r) e = r
-  reads_early (inr r) e = let s = r.0 in absurd (false≢true (sym (not_begun limit (decoded_input setting input) e.1) ∙ s.in_utf8 e.0))
+  pub reads_at_start : ReadsAll limit setting input tokens fault → IsRefusedAtStart (decoded_input setting input) → AllOf (answers_to limit setting input) tokens fault
+  reads_at_start (inl r) e = r
+  reads_at_start (inr r) e = let s = r.0 in absurd (false≢true (sym (not_begun limit (decoded_input setting input) e.1) ∙ s.in_utf8 e.0))

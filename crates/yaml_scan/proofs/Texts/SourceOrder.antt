@@ -19,7 +19,7 @@ use Rattle.yaml_lexeme.specs.Classes.{ends}
 use Rattle.yaml_lexeme.specs.Lex.{lex}
 use Rattle.yaml_lexeme.specs.Lexeme.{whole_of}
 use Rattle.yaml_lexeme.specs.StreamEnd.{stream_end, at_end}
-use Rattle.yaml_lexeme.specs.Order.{IsAhead, IsAfter}
+use Rattle.yaml_lexeme.specs.Order.{IsBeyond, IsAfter}
 use Rattle.yaml_lexeme.proofs.Places.PlaceMoves.{length_skip, skip_skip, stays}
 use Rattle.yaml_text.specs.declared.types.yaml_error_type_t.TheVariants.{YAML_SCANNER_ERROR}
 use Rattle.yaml_lexeme.proofs.MarkOrder.ReadingAhead.{spans_end}
@@ -172,7 +172,7 @@ module _ (cs : List ℕ) where
     within : count ≤ length cs
     counts : count_to (length cs) q ≡ count
 
-  there : (p n : ℕ) (q : Place) → p ≤ length cs → IsAhead n (place_at cs p) q → IsThere p n q
+  there : (p n : ℕ) (q : Place) → p ≤ length cs → IsBeyond n (place_at cs p) q → IsThere p n q
   there p n q l a =
       let r = rest_length p in
       let w = a.within in
@@ -235,7 +235,7 @@ module _ (cs : List ℕ) where
         let i = b.index in
         record {
           follows = record {
-            front = IsNotBefore-refl here.mark;
+            gap_end = IsNotBefore-refl here.mark;
             start = rw n (IsNotBefore-refl here.mark);
             at_once = rw n refl;
             end = rw n (not_before 1 here.mark f.value.end_mark b);
@@ -261,7 +261,7 @@ module _ (cs : List ℕ) where
         let z : IsNotBefore here.mark (end_of here.mark) = end_after here.mark in
         let r : IsReadInOrder (source_of cs) kind.STREAM_END p (reading (whole_of token.STREAM_END (stream_end here.mark) (stream_end here.mark)) (count_to (length cs) here)) = record {
           follows = record {
-            front = IsNotBefore-refl here.mark;
+            gap_end = IsNotBefore-refl here.mark;
             start = z;
             at_once = end_index here.mark;
             end = IsNotBefore-refl (end_of here.mark);

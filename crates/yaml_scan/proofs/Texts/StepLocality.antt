@@ -16,7 +16,7 @@ use Rattle.yaml_scan.specs.Order.{IsHistory}
 use Rattle.yaml_scan.specs.Begins.{Begins}
 use Rattle.yaml_scan.specs.Source.{Source, Reading, Offence}
 use Rattle.yaml_scan.specs.Step.{Outcome, step, unless, refuse, stale}
-use Rattle.yaml_scan.specs.Step.{refused, clears, start_at, lexeme_of, place_after, front_of}
+use Rattle.yaml_scan.specs.Step.{refused, clears, start_at, lexeme_of, place_after, gap_end_of}
 use Rattle.yaml_scan.specs.Step.Outcome.{Reads, Faults}
 use Rattle.yaml_scan.specs.Cut.{cut, IsRun, EndsWith, KeepsOrder}
 use Rattle.yaml_scan.specs.Near.{unless_near, is_near, place_of, starts_near}
@@ -53,65 +53,65 @@ after_place limit H k g (Ok b) = cases (stale limit (laid limit H (lexeme_of k g
     cases (Some i) = refl
 
 module _ (S : Source) (limit : ℕ) (H : List Laid) (k : KeepsOrder S) (w : place_after H ≤ S.size) where
-  p_within : front_of S H ≤ S.size
+  p_within : gap_end_of S H ≤ S.size
   p_within = (k.gap_within (nat_lt 0 (depth H)) (allowed_after H) (place_after H) w).1
 
   -- nothing is found before the gap's end
-  read_from : (j : Kind) → S.kind (nat_lt 0 (depth H)) (front_of S H) ≡ Some j → (x : Result Reading Offence)
-      → S.read j (depth H) (level H j (start_at j (S.mark (front_of S H)))) (front_of S H) ≡ x → front_of S H ≤ place_read x
-  read_from j q (Err o) e = (k.offends j (depth H) (level H j (start_at j (S.mark (front_of S H)))) (front_of S H) o p_within q e).0
+  read_from : (j : Kind) → S.kind (nat_lt 0 (depth H)) (gap_end_of S H) ≡ Some j → (x : Result Reading Offence)
+      → S.read j (depth H) (level H j (start_at j (S.mark (gap_end_of S H)))) (gap_end_of S H) ≡ x → gap_end_of S H ≤ place_read x
+  read_from j q (Err o) e = (k.offends j (depth H) (level H j (start_at j (S.mark (gap_end_of S H)))) (gap_end_of S H) o p_within q e).0
   read_from j q (Ok b) e =
-      let a = k.reads j (depth H) (level H j (start_at j (S.mark (front_of S H)))) (front_of S H) b p_within q e in
+      let a = k.reads j (depth H) (level H j (start_at j (S.mark (gap_end_of S H)))) (gap_end_of S H) b p_within q e in
       elim (cases_Bool (is_stream_end j)) [
         | inl t ↦ (let z = a.ends t in let l = p_within in omega arith)
         | inr t ↦ (let z = a.takes_a_character t in omega arith)
       ]
 
-  kind_from : (o : Option Kind) → S.kind (nat_lt 0 (depth H)) (front_of S H) ≡ o → front_of S H ≤ place_of (kind_step S limit H (front_of S H) o)
+  kind_from : (o : Option Kind) → S.kind (nat_lt 0 (depth H)) (gap_end_of S H) ≡ o → gap_end_of S H ≤ place_of (kind_step S limit H (gap_end_of S H) o)
   unfolding read_step
   kind_from None q = omega arith
   kind_from (Some j) q =
-      let x = S.read j (depth H) (level H j (start_at j (S.mark (front_of S H)))) (front_of S H) in
+      let x = S.read j (depth H) (level H j (start_at j (S.mark (gap_end_of S H)))) (gap_end_of S H) in
       let a = read_from j q x refl in
-      let e = after_place limit H j (S.mark (front_of S H)) x in
-      let b : front_of S H ≤ place_of (read_step S limit H j (front_of S H)) = omega arith in
-      refuse_from (refused limit H j (S.mark (front_of S H))) (S.mark (front_of S H)) (front_of S H) _
-      (unless_from (clears limit H j (S.mark (front_of S H))) (start_at j (S.mark (front_of S H))) (front_of S H) (read_step S limit H j (front_of S H)) b)
+      let e = after_place limit H j (S.mark (gap_end_of S H)) x in
+      let b : gap_end_of S H ≤ place_of (read_step S limit H j (gap_end_of S H)) = omega arith in
+      refuse_from (refused limit H j (S.mark (gap_end_of S H))) (S.mark (gap_end_of S H)) (gap_end_of S H) _
+      (unless_from (clears limit H j (S.mark (gap_end_of S H))) (start_at j (S.mark (gap_end_of S H))) (gap_end_of S H) (read_step S limit H j (gap_end_of S H)) b)
 
-  pub step_from : front_of S H ≤ place_of (step S limit H)
+  pub step_from : gap_end_of S H ≤ place_of (step S limit H)
   unfolding step read_step
-  step_from = unless_from (stale limit H (S.mark (front_of S H))) (S.mark (front_of S H)) (front_of S H) _ (kind_from (S.kind (nat_lt 0 (depth H)) (front_of S H)) refl)
+  step_from = unless_from (stale limit H (S.mark (gap_end_of S H))) (S.mark (gap_end_of S H)) (gap_end_of S H) _ (kind_from (S.kind (nat_lt 0 (depth H)) (gap_end_of S H)) refl)
 
   module _ (T : Source) (r : ℕ) (e : ReadsSame r S T) (l : place_of (step S limit H) ≤ r) where
-    front_same : front_of T H ≡ front_of S H
-    front_same = let f = step_from in e.gaps (nat_lt 0 (depth H)) (allowed_after H) (place_after H) (omega arith)
+    gap_end_same : gap_end_of T H ≡ gap_end_of S H
+    gap_end_same = let f = step_from in e.gaps (nat_lt 0 (depth H)) (allowed_after H) (place_after H) (omega arith)
 
-    mark_same : T.mark (front_of S H) ≡ S.mark (front_of S H)
-    mark_same = let f = step_from in e.marks (front_of S H) (omega arith)
+    mark_same : T.mark (gap_end_of S H) ≡ S.mark (gap_end_of S H)
+    mark_same = let f = step_from in e.marks (gap_end_of S H) (omega arith)
 
-    kind_same : T.kind (nat_lt 0 (depth H)) (front_of S H) ≡ S.kind (nat_lt 0 (depth H)) (front_of S H)
-    kind_same = let f = step_from in e.kinds (nat_lt 0 (depth H)) (front_of S H) (omega arith)
+    kind_same : T.kind (nat_lt 0 (depth H)) (gap_end_of S H) ≡ S.kind (nat_lt 0 (depth H)) (gap_end_of S H)
+    kind_same = let f = step_from in e.kinds (nat_lt 0 (depth H)) (gap_end_of S H) (omega arith)
 
-    read_same : (j : Kind) → place_of (read_step S limit H j (front_of S H)) ≤ r → read_step T limit H j (front_of S H) ≡ read_step S limit H j (front_of S H)
+    read_same : (j : Kind) → place_of (read_step S limit H j (gap_end_of S H)) ≤ r → read_step T limit H j (gap_end_of S H) ≡ read_step S limit H j (gap_end_of S H)
     unfolding read_step
     read_same j m =
-        let q = after_place limit H j (S.mark (front_of S H)) (S.read j (depth H) (level H j (start_at j (S.mark (front_of S H)))) (front_of S H)) in
-        let s : T.read j (depth H) (level H j (start_at j (S.mark (front_of S H)))) (front_of S H) ≡ S.read j (depth H) (level H j (start_at j (S.mark (front_of S H)))) (front_of S H) = e.reads j (depth H) (level H j (start_at j (S.mark (front_of S H)))) (front_of S H) (omega arith) in
-        ap (λ (g : yaml_mark_t). after_read limit H j g (T.read j (depth H) (level H j (start_at j g)) (front_of S H))) mark_same ∙ ap (after_read limit H j (S.mark (front_of S H))) s
+        let q = after_place limit H j (S.mark (gap_end_of S H)) (S.read j (depth H) (level H j (start_at j (S.mark (gap_end_of S H)))) (gap_end_of S H)) in
+        let s : T.read j (depth H) (level H j (start_at j (S.mark (gap_end_of S H)))) (gap_end_of S H) ≡ S.read j (depth H) (level H j (start_at j (S.mark (gap_end_of S H)))) (gap_end_of S H) = e.reads j (depth H) (level H j (start_at j (S.mark (gap_end_of S H)))) (gap_end_of S H) (omega arith) in
+        ap (λ (g : yaml_mark_t). after_read limit H j g (T.read j (depth H) (level H j (start_at j g)) (gap_end_of S H))) mark_same ∙ ap (after_read limit H j (S.mark (gap_end_of S H))) s
 
-    kind_step_same : (o : Option Kind) → place_of (kind_step S limit H (front_of S H) o) ≤ r → kind_step T limit H (front_of S H) o ≡ kind_step S limit H (front_of S H) o
+    kind_step_same : (o : Option Kind) → place_of (kind_step S limit H (gap_end_of S H) o) ≤ r → kind_step T limit H (gap_end_of S H) o ≡ kind_step S limit H (gap_end_of S H) o
     kind_step_same None m = rw mark_same refl
-    kind_step_same (Some j) m = ap (λ (g : yaml_mark_t). refuse (refused limit H j g) g (front_of S H) (unless (clears limit H j g) (start_at j g) (front_of S H) (read_step T limit H j (front_of S H)))) mark_same
-        ∙ refuse_same r (refused limit H j (S.mark (front_of S H))) (S.mark (front_of S H)) (front_of S H) _ _ m
-        (λ n. unless_same r (clears limit H j (S.mark (front_of S H))) (start_at j (S.mark (front_of S H))) (front_of S H) _ _ n (read_same j))
+    kind_step_same (Some j) m = ap (λ (g : yaml_mark_t). refuse (refused limit H j g) g (gap_end_of S H) (unless (clears limit H j g) (start_at j g) (gap_end_of S H) (read_step T limit H j (gap_end_of S H)))) mark_same
+        ∙ refuse_same r (refused limit H j (S.mark (gap_end_of S H))) (S.mark (gap_end_of S H)) (gap_end_of S H) _ _ m
+        (λ n. unless_same r (clears limit H j (S.mark (gap_end_of S H))) (start_at j (S.mark (gap_end_of S H))) (gap_end_of S H) _ _ n (read_same j))
 
     pub step_same : step T limit H ≡ step S limit H
     unfolding step read_step
     step_same =
-        ap (gap_step T limit H) front_same
-        ∙ ap (λ (o : Option Kind). unless (stale limit H (T.mark (front_of S H))) (T.mark (front_of S H)) (front_of S H) (kind_step T limit H (front_of S H) o)) kind_same
-        ∙ ap (λ (g : yaml_mark_t). unless (stale limit H g) g (front_of S H) (kind_step T limit H (front_of S H) (S.kind (nat_lt 0 (depth H)) (front_of S H)))) mark_same
-        ∙ unless_same r (stale limit H (S.mark (front_of S H))) (S.mark (front_of S H)) (front_of S H) _ _ l (kind_step_same (S.kind (nat_lt 0 (depth H)) (front_of S H)))
+        ap (gap_step T limit H) gap_end_same
+        ∙ ap (λ (o : Option Kind). unless (stale limit H (T.mark (gap_end_of S H))) (T.mark (gap_end_of S H)) (gap_end_of S H) (kind_step T limit H (gap_end_of S H) o)) kind_same
+        ∙ ap (λ (g : yaml_mark_t). unless (stale limit H g) g (gap_end_of S H) (kind_step T limit H (gap_end_of S H) (S.kind (nat_lt 0 (depth H)) (gap_end_of S H)))) mark_same
+        ∙ unless_same r (stale limit H (S.mark (gap_end_of S H))) (S.mark (gap_end_of S H)) (gap_end_of S H) _ _ l (kind_step_same (S.kind (nat_lt 0 (depth H)) (gap_end_of S H)))
 
 pub step_is_local : StepIsLocal
 step_is_local S T limit H r k w e l = step_same S limit H k w T r e l

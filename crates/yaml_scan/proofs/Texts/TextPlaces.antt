@@ -8,7 +8,7 @@ use Rattle.yaml_lexeme.specs.LexemeOf.{lexeme_of}
 use Rattle.yaml_lexeme.specs.declared.lexeme.yaml_lexeme_t.{yaml_lexeme_t as code_lexeme_t}
 use Rattle.yaml_lexeme.specs.Place.{Place, place_at, start}
 use Rattle.yaml_lexeme.specs.Counted.{IsMarkOf}
-use Rattle.yaml_lexeme.specs.Order.{IsAhead}
+use Rattle.yaml_lexeme.specs.Order.{IsBeyond}
 use Rattle.yaml_lexeme.specs.Answers.{ReadsAs, refused_at, lexeme_at, answer}
 use Rattle.yaml_lexeme.specs.declared.problem.yaml_refusal_t.{yaml_refusal_t}
 use Rattle.yaml_lexeme.specs.Reading as lexemes
@@ -35,7 +35,7 @@ pub record IsPlaceOf (cs : List ℕ) (p : ℕ) (q : Place) : Type 0 where
   pub after_call : p ≤ count_to (length cs) q
   pub within : count_to (length cs) q ≤ length cs
 
-pub ahead_place : (cs : List ℕ) (p n : ℕ) (q : Place) → p ≤ length cs → IsAhead n (place_at cs p) q → IsPlaceOf cs (p + n) q
+pub ahead_place : (cs : List ℕ) (p n : ℕ) (q : Place) → p ≤ length cs → IsBeyond n (place_at cs p) q → IsPlaceOf cs (p + n) q
 ahead_place cs p n q l a =
     let s = skip_skip p a.count (start cs) in
     let e : q ≡ place_at cs (p + a.count) = a.is ∙ s in
@@ -110,13 +110,13 @@ decider_there cs at flow k x d g f a = λ p i. record {
 
 -- what a reader returns is what is read of the text
 pub reads_in : (s : Scanner) (k : Kind) (x : yaml_context_t) (there : yaml_mark_t) (o : Result code_lexeme_t yaml_refusal_t)
-    → ((p : ℕ) → IsMarkOf s.text.chars s.front p → ReadsAs lexeme_of k s.front there o (lexeme_at k x (place_at s.text.chars p))) → IsReadIn s k x there o
+    → ((p : ℕ) → IsMarkOf s.text.chars s.gap_end p → ReadsAs lexeme_of k s.gap_end there o (lexeme_at k x (place_at s.text.chars p))) → IsReadIn s k x there o
 reads_in s k x there (Ok l) f = λ p i. read_there s.text.chars k x.depth x.level p (lexeme_of l) (f p i)
-reads_in s k x there (Err r) f = λ p i. elim (f p i) [ inl m ↦ inl m | inr a ↦ inr (offence_there s.text.chars k x.depth x.level p (refused_at k s.front there r) a) ]
+reads_in s k x there (Err r) f = λ p i. elim (f p i) [ inl m ↦ inl m | inr a ↦ inr (offence_there s.text.chars k x.depth x.level p (refused_at k s.gap_end there r) a) ]
 
 -- a lexeme that was read needs no mark of an offence
 pub reads_well : (s : Scanner) (k : Kind) (x : yaml_context_t) (there other : yaml_mark_t) (o : Result code_lexeme_t yaml_refusal_t) → is_err o ≡ false
-    → ((p : ℕ) → IsMarkOf s.text.chars s.front p → ReadsAs lexeme_of k s.front there o (lexeme_at k x (place_at s.text.chars p))) → IsReadIn s k x other o
+    → ((p : ℕ) → IsMarkOf s.text.chars s.gap_end p → ReadsAs lexeme_of k s.gap_end there o (lexeme_at k x (place_at s.text.chars p))) → IsReadIn s k x other o
 reads_well s k x there other (Ok l) e f = reads_in s k x other (Ok l) f
 reads_well s k x there other (Err r) e f = cc
 

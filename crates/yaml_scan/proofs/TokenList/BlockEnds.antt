@@ -11,7 +11,7 @@ use Rattle.yaml_scan.specs.Laws.{is_of_lexeme, is_block_end, is_block_start, end
 use Rattle.yaml_scan.specs.Laid.{is_none, Laid, column, Lexeme}
 use Rattle.yaml_scan.specs.Depth.{depth}
 use Rattle.yaml_scan.specs.Order.{IsHistory}
-use Rattle.yaml_scan.specs.Levels.{opens, is_completed, open_columns, kept_columns, keeps, is_opener, is_above}
+use Rattle.yaml_scan.specs.Levels.{opens, is_completed, open_columns, staying_columns, keeps, is_opener, is_above}
 use Rattle.yaml_scan.proofs.History.KindTests.{end_not_value, end_closes, end_opens_nothing}
 use Rattle.yaml_scan.proofs.History.HistoryOrder.{laid_closed, completed_is, IsCompletion}
 use Rattle.yaml_scan.proofs.TokenList.GroupInsertion.{IsInsertion, offline-more_some, offline-more_none, and_false}
@@ -113,8 +113,8 @@ split_length t (c ∷ cs) = let r = split_length t cs in elim (cases_Bool (t c))
   | inr q ↦ rw q (omega arith)
 ]
 
-pub open_and_closed : (limit : ℕ) (i : Laid) (H : List Laid) → IsHistory limit (i ∷ H) → length (open_columns H) ≡ length (kept_columns H i.lexeme.kind i.lexeme.start) + length i.closed
-unfolding kept_columns
+pub open_and_closed : (limit : ℕ) (i : Laid) (H : List Laid) → IsHistory limit (i ∷ H) → length (open_columns H) ≡ length (staying_columns H i.lexeme.kind i.lexeme.start) + length i.closed
+unfolding staying_columns
 open_and_closed limit i H h =
     let c : i.closed ≡ filter (λ c. not (keeps (depth H) i.lexeme.kind i.lexeme.start c)) (open_columns H) = ap (λ (p : Laid). p.closed) h.0 ∙ laid_closed limit H i.lexeme in
     let l = ap (λ (x : List ℕ). length x) c in
@@ -153,7 +153,7 @@ starts_more_none limit i H h e ih =
     let c = group_starts (i ∷ H) i in
     let d = group_ends (i ∷ H) i in
     let o : (one_if (opens (i ∷ H) i)) ≡ (one_if (opens_itself i)) = ap one_if (opens_self limit i H h) in
-    let l = opened_length (opens_itself i) (column i) (kept_columns H i.lexeme.kind i.lexeme.start) in
+    let l = opened_length (opens_itself i) (column i) (staying_columns H i.lexeme.kind i.lexeme.start) in
     let k = open_and_closed limit i H h in
     rw (offline-more_none limit i H h e, open_columns-none limit i H h e) (omega arith)
 
@@ -180,7 +180,7 @@ starts_more_some limit i H c h s e ih = go (offline-more_some limit i H c h s.ca
         let g2 = group_ends (i ∷ H) i in
         let n : opens_itself i ≡ false = rw (completes_not_opener i c.number s.value e) (and_false (nat_eq i.depth 0) (is_above (column i) i.level)) in
         let o : (one_if (opens (i ∷ H) i)) ≡ 0 = ap one_if (opens_self limit i H h ∙ n) in
-        let l = opened_length (nat_eq c.depth 0 && is_above (column c) c.level) (column c) (kept_columns H i.lexeme.kind i.lexeme.start) in
+        let l = opened_length (nat_eq c.depth 0 && is_above (column c) c.level) (column c) (staying_columns H i.lexeme.kind i.lexeme.start) in
         let k = open_and_closed limit i H h in
         rw (r.now, open_columns-some limit i H c h s e) (omega arith)
 
@@ -282,8 +282,8 @@ closes_everything : (x : Lexeme) → closes_all x.kind ≡ true → (cs : List �
 closes_everything x q [] = refl
 closes_everything x q (c ∷ cs) = rw q (closes_everything x q cs)
 
-open_at_end : (H : List Laid) (x : Lexeme) → depth H ≡ 0 → closes_all x.kind ≡ true → kept_columns H x.kind x.start ≡ []
-unfolding kept_columns
+open_at_end : (H : List Laid) (x : Lexeme) → depth H ≡ 0 → closes_all x.kind ≡ true → staying_columns H x.kind x.start ≡ []
+unfolding staying_columns
 open_at_end H x d q = rw d (closes_everything x q (open_columns H))
 
 pub end_completes_nothing : (limit : ℕ) (i : Laid) (H : List Laid) → IsHistory limit (i ∷ H) → is_stream_end i.lexeme.kind ≡ true → i.completed ≡ None

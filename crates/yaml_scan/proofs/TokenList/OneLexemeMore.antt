@@ -8,7 +8,7 @@ use Rattle.yaml_scan.specs.Course.{ended}
 use Rattle.yaml_scan.specs.Laid.{Laid}
 use Rattle.yaml_scan.specs.Depth.{depth}
 use Rattle.yaml_scan.specs.Keys.{candidate, is_candidate, enters, completed_by}
-use Rattle.yaml_scan.specs.Levels.{open_columns, kept_columns, level, greatest_level, keeps}
+use Rattle.yaml_scan.specs.Levels.{open_columns, staying_columns, level, greatest_level, keeps}
 use Rattle.yaml_scan.specs.Falling.{IsFalling}
 use Rattle.yaml_scan.specs.Groups.{Token, group, groups, offline, block_ends}
 use Rattle.yaml_scan.specs.Laws.{put_in}
@@ -55,7 +55,7 @@ completed_same limit i H h o e = ap (λ (j : Laid). j.completed) h.0 ∙ laid_co
 pub columns_go_on : ColumnsGoOn
 columns_go_on limit i H h = go (completed_by limit H i.lexeme.kind i.lexeme.start) refl
   where
-    go : (o : Option Laid) → completed_by limit H i.lexeme.kind i.lexeme.start ≡ o → open_columns (i ∷ H) ≡ new_column i o ++ kept_columns H i.lexeme.kind i.lexeme.start
+    go : (o : Option Laid) → completed_by limit H i.lexeme.kind i.lexeme.start ≡ o → open_columns (i ∷ H) ≡ new_column i o ++ staying_columns H i.lexeme.kind i.lexeme.start
     go None e = open_columns-none limit i H h (completed_same limit i H h None e)
     go (Some c) e = open_columns-some limit i H c h (completion_is limit H i.lexeme c e) (completed_same limit i H h (Some c) e)
 
@@ -67,7 +67,7 @@ first_is [] f = refl
 first_is (c ∷ cs) f = level_first c cs f
 
 pub level_is_first : LevelIsFirst
-unfolding level kept_columns
+unfolding level staying_columns
 level_is_first limit H k m h = first_is (filter (keeps (depth H) k m) (open_columns H)) (falling_filter (keeps (depth H) k m) (open_columns H) (columns_fall limit H h))
 
 pub level_stays : LevelStays

@@ -30,11 +30,11 @@ in_order_front n l [] b o = in_order_length n l b o
 in_order_front n l (t ∷ a) b o = (o.0, o.1, in_order_front (end_of t).index l a b o.2)
 
 -- tokens of one mark
-module _ (x : Lexeme) (e : x.start.index ≡ x.front.index) where
+module _ (x : Lexeme) (e : x.start.index ≡ x.gap_end.index) where
   end_index : (c : ℕ) → (end_mark x c).index ≡ x.start.index
-  end_index c = cases (is_stream_end x.kind && ltb x.front.column c)
+  end_index c = cases (is_stream_end x.kind && ltb x.gap_end.column c)
     where
-      cases : (b : Bool) → (if b then x.front else x.start).index ≡ x.start.index
+      cases : (b : Bool) → (if b then x.gap_end else x.start).index ≡ x.start.index
       cases true = sym e
       cases false = refl
 
@@ -66,7 +66,7 @@ inserted_in_order W i = in_order_append i.lexeme.start.index i.lexeme.start.inde
 group_in_order : (m : yaml_mark_t) (W : List Laid) (i : Laid) → Follows m i.lexeme → AreInOrder m.index (group W i) i.lexeme.reach.index
 unfolding group block_ends
 group_in_order m W i f =
-    let a = f.front.index in
+    let a = f.gap_end.index in
     let b = f.at_once in
     let c = f.end.index in
     let d = f.reach.index in

@@ -10,7 +10,7 @@ use Rattle.yaml_scan.specs.inside.Scanner.{Scanner}
 use Rattle.yaml_scan.specs.Begins.{Begins}
 use Rattle.yaml_scan.specs.Groups.{Token, handed_out}
 use Rattle.yaml_scan.specs.Settled.{before}
-use Rattle.yaml_scan.specs.Sink.{IsGivenAll, IsGivenFront}
+use Rattle.yaml_scan.specs.Sink.{IsGivenAll, IsGivenBeginning}
 use Rattle.yaml_scan.specs.Token.{yaml_token_t}
 use Rattle.yaml_scan.specs.inside.Scanning.{IsRunning, IsLast, IsOpen, course_of, history}
 use Rattle.yaml_scan.specs.inside.Stop.{fault_at}
@@ -38,20 +38,20 @@ pub record HasGiven (s t : Scanner) (tokens : List yaml_token_t) : Type 0 where
 
 -- a sink was given the next tokens of a scanner, in order, and refused the one after them
 pub record IsCutOff (s : Scanner) (took : List yaml_token_t → Type 0) : Type 0 where
-  pub front : List yaml_token_t
+  pub handed : List yaml_token_t
   pub next : yaml_token_t
-  pub begins : Begins (told_taken s ++ (front ++ next ∷ [])) (told_all s)
-  pub given : took front
+  pub begins : Begins (told_taken s ++ (handed ++ next ∷ [])) (told_all s)
+  pub given : took handed
 
 -- no step is made after s, though its next token needs one: memory was refused, or there is a fault
-pub record IsStuck (s : Scanner) (kept : Option yaml_fault_t) (stop : stop_t) : Type 0 where
+pub record IsStuck (s : Scanner) (stored : Option yaml_fault_t) (stop : stop_t) : Type 0 where
   pub unsettled : length (before s.limit (history s)) ≤ s.taken
-  pub fault : (fault_at stop kept ≡ memory_fault) ⊎ IsLast s (fault_at stop kept)
+  pub fault : (fault_at stop stored ≡ memory_fault) ⊎ IsLast s (fault_at stop stored)
 
 -- A scanner that has stopped: all that its steps settle was given, or the sink refused a token.
 abbrev pub StopsGiving : Scanner → Option yaml_fault_t → stop_t → (List yaml_token_t → Type 0) → Type 0 → Type 0
-StopsGiving s kept stop took refuses =
-    ((tokens : List yaml_token_t) × (m : Scanner) × HasGiven s m tokens × IsStuck m kept stop × took tokens)
+StopsGiving s stored stop took refuses =
+    ((tokens : List yaml_token_t) × (m : Scanner) × HasGiven s m tokens × IsStuck m stored stop × took tokens)
     ⊎ ((stop ≡ SINK) × IsCutOff s took × refuses)
 
 -- the head of the queue is the next token, after some were given
@@ -68,6 +68,6 @@ GaveRest s took = (tokens : List yaml_token_t) × (told_all s ≡ told_taken s +
 abbrev pub GivesAll
     : (List yaml_token_t → Type 0) → Type 0 → ℕ → yaml_encoding_t → List ℕ → Option yaml_fault_t
     → Result (Unit {0}) stop_t → Type 0
-GivesAll took refuses limit setting input kept o = MatchResult o (λ _. IsGivenAll took limit setting input None)
-    (λ stop. IsGivenAll took limit setting input (Some (fault_at stop kept))
-    ⊎ ((stop ≡ SINK) × IsGivenFront took limit setting input × refuses))
+GivesAll took refuses limit setting input stored o = MatchResult o (λ _. IsGivenAll took limit setting input None)
+    (λ stop. IsGivenAll took limit setting input (Some (fault_at stop stored))
+    ⊎ ((stop ≡ SINK) × IsGivenBeginning took limit setting input × refuses))

@@ -60,10 +60,10 @@ is_end t = is_last_type (type_of t.token_data)
 
 -- a sink was given the first of these tokens, in order, and refused the next one
 pub record IsCut (took : List yaml_token_t → Type 0) (tokens : List yaml_token_t) : Type 0 where
-  pub front : List yaml_token_t
+  pub handed : List yaml_token_t
   pub next : yaml_token_t
-  pub begins : Begins (front ++ next ∷ []) tokens
-  pub given : took front
+  pub begins : Begins (handed ++ next ∷ []) tokens
+  pub given : took handed
 
 -- a sink was given these tokens, or it refused one of them
 abbrev pub Gives : (List yaml_token_t → Type 0) → Type 0 → List yaml_token_t → Result (Unit {0}) stop_t → Type 0
@@ -80,7 +80,7 @@ pub record IsPushed (q : queue_t) (y : group_t) (r : queue_t) : Type 0 where
   pub capacity : deque_capacity r.groups ≡ deque_capacity q.groups
   pub done : r.done ≡ q.done
   pub early : r.early ≡ q.early
-  pub front : r.front ≡ q.front
+  pub early_mark : r.early_mark ≡ q.early_mark
 
 -- the same scanner with another queue, of which n tokens were taken
 abbrev pub set_queue : Scanner → queue_t → ℕ → Scanner
@@ -94,7 +94,7 @@ set_queue s q n = record {
   allowed = s.allowed;
   layout = record { levels = s.layout.levels; queue = q };
   reach = s.reach;
-  front = s.front;
+  gap_end = s.gap_end;
   there = s.there;
   taken = n;
   made = s.made;
@@ -105,7 +105,7 @@ with_queue s q = set_queue s q s.taken
 
 -- the same queue, of which one group more was taken
 abbrev pub one_done : queue_t → queue_t
-one_done q = record { groups = q.groups; done = q.done + 1; early = q.early; front = q.front }
+one_done q = record { groups = q.groups; done = q.done + 1; early = q.early; early_mark = q.early_mark }
 
 -- A group was queued, or, unless it had to wait, these tokens of it were given, which are all.
 abbrev pub IsHanded : Bool → Bool → Scanner → Scanner → group_t → List yaml_token_t → Type 0

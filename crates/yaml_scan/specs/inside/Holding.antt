@@ -12,7 +12,7 @@ use Rattle.yaml_scan.specs.Levels.{open_columns}
 use Rattle.yaml_scan.specs.Falling.{AllLess}
 use Rattle.yaml_scan.specs.Groups.{offline}
 use Rattle.yaml_scan.specs.Step.{stale}
-use Rattle.yaml_scan.specs.inside.Slots.{held, outer_to, empty_slots, lowest, step_of}
+use Rattle.yaml_scan.specs.inside.Slots.{held, outer_to, empty_slots, lowest, held_step}
 use Rattle.yaml_scan.specs.inside.Queue.{IsQueue}
 
 -- The slots hold the candidate of each depth while it is live, no required one is stale, and `may` says whether a key
@@ -22,7 +22,7 @@ pub record HoldsKeys (limit : ℕ) (H : List Laid) (slots : slots_t) (may : Bool
   pub outer : slots.outer.items ≡ outer_to limit H (depth H)
   pub empty : slots.not_simple_keys ≡ empty_slots slots.outer.items
   pub top : slots.top ≡ held limit H (depth H)
-  pub awaited : slots.awaited ≡ step_of (lowest (slots.outer.items ++ slots.top ∷ []))
+  pub awaited : slots.awaited ≡ held_step (lowest (slots.outer.items ++ slots.top ∷ []))
   pub allowed : may ≡ allowed_after H
 
 -- The stack of levels has the columns of the open block collections, all of them in a text of `size` characters.
@@ -31,8 +31,8 @@ pub record HoldsLevels (size : ℕ) (H : List Laid) (levels : List ℕ) : Type 0
   pub columns : AllLess (size + 1) (open_columns H)
 
 -- With the groups ys the queue hands out all tokens of H but the first `taken` ones, and each step has its group, which
--- is queued or done. Until the stream has ended, no block end waits at the front.
+-- is queued or done. Until the stream has ended, no early block end waits.
 pub record HoldsQueue (e : yaml_encoding_t) (taken : ℕ) (H : List Laid) (q : queue_t) (ys : List group_t) : Type 0 where
-  pub tokens : IsQueue e q.early q.front ys (drop taken (offline H))
+  pub tokens : IsQueue e q.early q.early_mark ys (drop taken (offline H))
   pub count : q.done + length ys ≡ length H + 1
   pub early : ended H ≡ false → q.early ≡ 0

@@ -36,22 +36,23 @@ abbrev pub leads : group_t → List Token
 leads y = ends_at y.ends y.token.start_mark
     ++ (start_at y.opens y.token.start_mark ++ (if y.key then InsertedKey y.token.start_mark ∷ [] else []))
 
--- the block ends of the front come before the group that no other one follows
+-- the early block ends come before the group that no other one follows
 abbrev pub early_before : ℕ → yaml_mark_t → List group_t → List Token
-early_before early front [] = ends_at early front
-early_before early front (z ∷ ys) = []
+early_before early early_mark [] = ends_at early early_mark
+early_before early early_mark (z ∷ ys) = []
 
 -- what is handed out before the token of the first group
 abbrev pub pending : ℕ → yaml_mark_t → List group_t → List Token
-pending early front [] = []
-pending early front (y ∷ ys) = early_before early front ys ++ leads y
+pending early early_mark [] = []
+pending early early_mark (y ∷ ys) = early_before early early_mark ys ++ leads y
 
 -- These tokens are queued: each group hands out its leads and then its token, which is that of a lexeme or the start of
 -- the stream.
 abbrev pub IsQueue : yaml_encoding_t → ℕ → yaml_mark_t → List group_t → List Token → Type 0
-IsQueue e early front [] xs = xs ≡ []
-IsQueue e early front (y ∷ ys) xs = (x : Token) × (rest : List Token) × (xs ≡ pending early front (y ∷ ys) ++ x ∷ rest)
-    × (token_of y.token ≡ handed_out e x) × (is_of_lexeme x ≡ true) × IsQueue e early front ys rest
+IsQueue e early early_mark [] xs = xs ≡ []
+IsQueue e early early_mark (y ∷ ys) xs = (x : Token) × (rest : List Token)
+    × (xs ≡ pending early early_mark (y ∷ ys) ++ x ∷ rest)
+    × (token_of y.token ≡ handed_out e x) × (is_of_lexeme x ≡ true) × IsQueue e early early_mark ys rest
 
 -- the token of a lead, at its mark
 abbrev pub lead_tokens : lead_t → yaml_mark_t → List Token
@@ -68,10 +69,10 @@ begins_with_end (x ∷ xs) = is_block_end x
 
 -- the mark of what is handed out before the token of the first group
 abbrev pub mark_next : ℕ → yaml_mark_t → List group_t → yaml_mark_t
-mark_next early front [] = front
-mark_next zero front (y ∷ ys) = y.token.start_mark
-mark_next (suc n) front (y ∷ []) = front
-mark_next (suc n) front (y ∷ (z ∷ ys)) = y.token.start_mark
+mark_next early early_mark [] = early_mark
+mark_next zero early_mark (y ∷ ys) = y.token.start_mark
+mark_next (suc n) early_mark (y ∷ []) = early_mark
+mark_next (suc n) early_mark (y ∷ (z ∷ ys)) = y.token.start_mark
 
 -- the group of a candidate, which a `:` completes, and which opens a block mapping or not
 abbrev pub keyed : Bool → group_t → group_t
@@ -104,17 +105,17 @@ Fitting (Some h) d ys = (d < h.step) × (h.step - 1 - d < length ys)
 pub record KeepsRest (old new : queue_t) : Type 0 where
   pub done : new.done ≡ old.done
   pub early : new.early ≡ old.early
-  pub front : new.front ≡ old.front
+  pub early_mark : new.early_mark ≡ old.early_mark
   pub long : length new.groups.items ≡ length old.groups.items
   pub capacity : deque_capacity new.groups ≡ deque_capacity old.groups
 
 -- the token that is handed out before that of the first group, if there is one
 abbrev pub IsLead : yaml_encoding_t → queue_t → yaml_token_t → Type 0
-IsLead e q token = (x : Token) (rest : List Token) → pending q.early q.front q.groups.items ≡ x ∷ rest
+IsLead e q token = (x : Token) (rest : List Token) → pending q.early q.early_mark q.groups.items ≡ x ∷ rest
     → token ≡ handed_out e x
 
 -- what comes before the first token is taken: only the first group changes, or, if it is the only one, how many
--- block ends of the front are left
+-- early block ends are left
 pub record DropsLead (old new : queue_t) : Type 0 where
   pub was : group_t
   pub now : group_t
@@ -122,19 +123,20 @@ pub record DropsLead (old new : queue_t) : Type 0 where
   pub old_is : old.groups.items ≡ was ∷ others
   pub new_is : new.groups.items ≡ now ∷ others
   pub token : now.token ≡ was.token
-  pub pending : pending new.early new.front (now ∷ others) ≡ drop 1 (pending old.early old.front (was ∷ others))
+  pub pending : pending new.early new.early_mark (now ∷ others)
+      ≡ drop 1 (pending old.early old.early_mark (was ∷ others))
   pub done : new.done ≡ old.done
-  pub front : new.front ≡ old.front
+  pub early_mark : new.early_mark ≡ old.early_mark
   pub early : new.early ≤ old.early
   pub same_early : others ≡ [] ⊎ (new.early ≡ old.early)
 
 -- No token is handed out before that of the first group, and nothing is taken.
 pub record IsBare (old new : queue_t) : Type 0 where
-  pub none : pending new.early new.front new.groups.items ≡ []
+  pub none : pending new.early new.early_mark new.groups.items ≡ []
   pub groups : new.groups.items ≡ old.groups.items
   pub done : new.done ≡ old.done
   pub early : new.early ≡ old.early
-  pub front : new.front ≡ old.front
+  pub early_mark : new.early_mark ≡ old.early_mark
 
 -- the first token is taken
 pub record Takes (e : yaml_encoding_t) (old new : queue_t) (token : yaml_token_t) (xs : List Token) : Type 0 where
@@ -142,13 +144,14 @@ pub record Takes (e : yaml_encoding_t) (old new : queue_t) (token : yaml_token_t
   pub rest : List Token
   pub is : xs ≡ first ∷ rest
   pub told : token ≡ handed_out e first
-  pub queue : IsQueue e new.early new.front new.groups.items rest
+  pub queue : IsQueue e new.early new.early_mark new.groups.items rest
   pub count : new.done + length new.groups.items ≡ old.done + length old.groups.items
   pub early : new.early ≤ old.early
 
 -- the first token is taken, whatever the encoding
 abbrev pub TakesNext : queue_t → queue_t → yaml_token_t → Type 0
-TakesNext old new token = (e : yaml_encoding_t) (xs : List Token) → IsQueue e old.early old.front old.groups.items xs
+TakesNext old new token = (e : yaml_encoding_t) (xs : List Token)
+    → IsQueue e old.early old.early_mark old.groups.items xs
     → Takes e old new token xs
 
 -- what is handed out before the token of the first group is taken, at its mark

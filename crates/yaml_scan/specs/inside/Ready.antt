@@ -115,7 +115,7 @@ scanner_in p = scanner_of p.text p.state
 
 -- the fault that ended its session, if one did
 abbrev pub fault_in : Bool → Option yaml_fault_t → Option Fault
-fault_in failed kept = if failed then option_map fault_of kept else None
+fault_in failed stored = if failed then option_map fault_of stored else None
 
 abbrev pub parser_of : Inside → Parser
 parser_of p = record {

@@ -19,7 +19,7 @@ pub record Scanner : Type 0 where
   pub allowed : Bool
   pub layout : layout_t
   pub reach : yaml_mark_t
-  pub front : yaml_mark_t
+  pub gap_end : yaml_mark_t
   pub there : yaml_mark_t
   pub taken : ℕ
   pub made : ℕ
@@ -36,7 +36,7 @@ scanner_of text s = record {
   allowed = s.allowed;
   layout = s.layout;
   reach = s.reach;
-  front = s.front;
+  gap_end = s.gap_end;
   there = s.there;
   taken = s.taken;
   made = s.made;

@@ -43,7 +43,7 @@ use Rattle.yaml_scan.specs.inside.Slots.{Held}
 use Rattle.yaml_scan.specs.inside.Slots.{completed_held, is_live, is_level, lost_held, needed}
 use Rattle.yaml_scan.specs.inside.Slots.{root_of, slot_after}
 use Rattle.yaml_scan.specs.inside.Queue.{begins_with_end, closing, pending}
-use Rattle.yaml_scan.specs.Step.{step, place_after, front_of, start_at, problem_of, replaces}
+use Rattle.yaml_scan.specs.Step.{step, place_after, gap_end_of, start_at, problem_of, replaces}
 use Rattle.yaml_scan.specs.Step.Outcome.{Reads, Faults}
 use Rattle.yaml_scan.specs.Near.{is_near}
 
@@ -87,19 +87,19 @@ Holds H n s = HoldsWith H n s (groups_in s)
 -- a kind of lexeme after the gap, where the gap ends, and whether a key is allowed there
 pub record Met : Type 0 where
   pub kind : Kind
-  pub front : yaml_mark_t
+  pub gap_end : yaml_mark_t
   pub allowed : Bool
 
 -- what a step has met
 abbrev pub met_in : Scanner → step_t → Met
-met_in s r = record { kind = r.kind; front = s.front; allowed = r.allowed }
+met_in s r = record { kind = r.kind; gap_end = s.gap_end; allowed = r.allowed }
 
 -- the kind of lexeme that was found after the gap
 pub record IsMet (H : List Laid) (s : Scanner) (m : Met) : Type 0 where
-  pub front : IsMarkOf s.text.chars m.front (front_of (text_of s) H)
-  pub allowed : m.allowed ≡ allowed H m.front
-  pub kind : (text_of s).kind (nat_lt 0 (depth H)) (front_of (text_of s) H) ≡ Some m.kind
-  pub step : step (text_of s) s.limit H ≡ read_step (text_of s) s.limit H m.kind (front_of (text_of s) H)
+  pub gap_end : IsMarkOf s.text.chars m.gap_end (gap_end_of (text_of s) H)
+  pub allowed : m.allowed ≡ allowed H m.gap_end
+  pub kind : (text_of s).kind (nat_lt 0 (depth H)) (gap_end_of (text_of s) H) ≡ Some m.kind
+  pub step : step (text_of s) s.limit H ≡ read_step (text_of s) s.limit H m.kind (gap_end_of (text_of s) H)
 
 -- a lexeme that was met can be read and laid, after the groups ys
 pub record CanLay (H : List Laid) (s : Scanner) (ys : List group_t) (m : Met) : Type 0 where
@@ -128,33 +128,34 @@ pub record CanStep (H : List Laid) (s : Scanner) : Type 0 where
 pub record Passes (H : List Laid) (s : Scanner) (in_flow : Bool) : Type 0 where
   pub can : CanStep H s
   pub flow : in_flow ≡ nat_lt 0 (vec_len s.slots.outer)
-  pub front : IsMarkOf s.text.chars s.front (front_of (text_of s) H)
-  pub none_lost : lost_held s.limit s.front (root_of s.slots.outer.items s.slots.top) ≡ None
+  pub gap_end : IsMarkOf s.text.chars s.gap_end (gap_end_of (text_of s) H)
+  pub none_lost : lost_held s.limit s.gap_end (root_of s.slots.outer.items s.slots.top) ≡ None
 
 -- a lexeme of kind k comes after the gap
 pub record Comes (H : List Laid) (s : Scanner) (in_flow : Bool) (k : Kind) : Type 0 where
   pub passes : Passes H s in_flow
-  pub is_kind : (text_of s).kind in_flow (front_of (text_of s) H) ≡ Some k
+  pub is_kind : (text_of s).kind in_flow (gap_end_of (text_of s) H) ≡ Some k
 
 -- whether a key is allowed there
 abbrev pub allowed_in : Scanner → Bool → Bool
-allowed_in s in_flow = s.allowed || (not in_flow && nat_lt s.reach.line s.front.line)
+allowed_in s in_flow = s.allowed || (not in_flow && nat_lt s.reach.line s.gap_end.line)
 
 -- what is wrong with a kind after the gap, if it needs an allowed key and none is allowed
 abbrev pub refused_in : Scanner → Bool → Kind → Bool → Option (List ℕ)
 refused_in s in_flow k allowed = if not in_flow && not allowed
-    then problem_of k (not (is_some (completed_held k s.limit s.front s.slots.top))) else None
+    then problem_of k (not (is_some (completed_held k s.limit s.gap_end s.slots.top))) else None
 
 -- the required candidate that a lexeme of a kind after the gap would clear or replace
 abbrev pub cleared_in : Scanner → Bool → Kind → Bool → Option Held
-cleared_in s in_flow k allowed = if replaces k allowed && not in_flow then needed s.limit s.front s.slots.top else None
+cleared_in s in_flow k allowed = if replaces k allowed && not in_flow then needed s.limit s.gap_end s.slots.top
+    else None
 
 -- `new` is what is kept of the lexeme that was met, in flow or not, with the greatest level that it keeps
 pub record IsNewHeld (s : Scanner) (m : Met) (in_flow : Bool) (l : Option ℕ) (new : Held) : Type 0 where
   pub flow : in_flow ≡ nat_lt 0 (vec_len s.slots.outer)
   pub is_greatest : l ≡ greatest_level (filter (stays in_flow m.kind new.start) (reverse s.layout.levels.items))
   pub step : new.step ≡ s.made + 1
-  pub start : new.start ≡ start_at m.kind m.front
+  pub start : new.start ≡ start_at m.kind m.gap_end
   pub required : new.required ≡ is_level in_flow l new.start.column
 
 -- the required candidate that is stale at a mark after the lexeme that was met
@@ -169,8 +170,8 @@ pub record CanPut
   pub can : CanLay H s ys m
   pub level : Option ℕ
   pub is_new : IsNewHeld s m in_flow level new
-  pub read : IsRead s.text.chars m.kind (vec_len s.slots.outer) level (front_of (text_of s) H) x
-  pub kept : lost_after s.limit s.slots m new x.reach ≡ None
+  pub read : IsRead s.text.chars m.kind (vec_len s.slots.outer) level (gap_end_of (text_of s) H) x
+  pub none_lost : lost_after s.limit s.slots m new x.reach ≡ None
 
 -- a lexeme that was met can be read, and there is room for it
 pub record CanRead (H : List Laid) (s : Scanner) (r : step_t) : Type 0 where
@@ -179,7 +180,7 @@ pub record CanRead (H : List Laid) (s : Scanner) (r : step_t) : Type 0 where
   pub is_new : IsNewHeld s (met_in s r) r.in_flow r.context.level r.new
   pub depth : r.context.depth ≡ vec_len s.slots.outer
   pub within : IfSome r.context.level (λ l. l ≤ length s.text.chars)
-  pub there : (text_of s).kind (nat_lt 0 r.context.depth) (front_of (text_of s) H) ≡ Some r.kind
+  pub there : (text_of s).kind (nat_lt 0 r.context.depth) (gap_end_of (text_of s) H) ≡ Some r.kind
   pub room : HasRoom s r.in_flow r.kind
 
 -- the same but for how much room there is
@@ -198,29 +199,29 @@ pub record Beside (s t : Scanner) : Type 0 where
   pub groups : t.layout.queue.groups.items ≡ s.layout.queue.groups.items
   pub done : t.layout.queue.done ≡ s.layout.queue.done
   pub early : t.layout.queue.early ≡ s.layout.queue.early
-  pub queue_front : t.layout.queue.front ≡ s.layout.queue.front
+  pub early_mark : t.layout.queue.early_mark ≡ s.layout.queue.early_mark
   pub reach : t.reach ≡ s.reach
-  pub front : t.front ≡ s.front
+  pub gap_end : t.gap_end ≡ s.gap_end
   pub taken : t.taken ≡ s.taken
   pub made : t.made ≡ s.made
 
 -- A lexeme of kind k was read after the gap, or why it was refused, for an offence at `there`.
 abbrev pub IsReadIn : Scanner → Kind → yaml_context_t → yaml_mark_t → Result code_lexeme_t yaml_refusal_t → Type 0
-IsReadIn s k x there (Ok l) = (p : ℕ) → IsMarkOf s.text.chars s.front p
+IsReadIn s k x there (Ok l) = (p : ℕ) → IsMarkOf s.text.chars s.gap_end p
     → IsRead s.text.chars k x.depth x.level p (lexeme_of l)
-IsReadIn s k x there (Err r) = (p : ℕ) → IsMarkOf s.text.chars s.front p
-    → (r ≡ MEMORY) ⊎ IsOffence s.text.chars k x.depth x.level p (refused_at k s.front there r)
+IsReadIn s k x there (Err r) = (p : ℕ) → IsMarkOf s.text.chars s.gap_end p
+    → (r ≡ MEMORY) ⊎ IsOffence s.text.chars k x.depth x.level p (refused_at k s.gap_end there r)
 
 -- A step has to stop after the lexeme x, which was read to `there`.
 pub record StopsAfter (H : List Laid) (s : Scanner) (r : step_t) (x : yaml_lexeme_t) : Type 0 where
   pub can : CanRead H s r
-  pub read : IsRead s.text.chars r.kind (vec_len s.slots.outer) r.context.level (front_of (text_of s) H) x
+  pub read : IsRead s.text.chars r.kind (vec_len s.slots.outer) r.context.level (gap_end_of (text_of s) H) x
   pub there : s.there ≡ x.reach
   pub stops : (s.near ≤ x.reach.index) ⊎ (is_some (lost_after s.limit s.slots (met_in s r) r.new x.reach) ≡ true)
 
 -- the same scanner, with other marks: where the gap ends, and the place of an offence
 abbrev pub at_marks : Scanner → yaml_mark_t → yaml_mark_t → Scanner
-at_marks s front there = record {
+at_marks s gap_end there = record {
   alloc = s.alloc;
   text = s.text;
   refusal = s.refusal;
@@ -230,7 +231,7 @@ at_marks s front there = record {
   allowed = s.allowed;
   layout = s.layout;
   reach = s.reach;
-  front = front;
+  gap_end = gap_end;
   there = there;
   taken = s.taken;
   made = s.made;
@@ -238,7 +239,7 @@ at_marks s front there = record {
 
 -- the same scanner, with the place of an offence of another
 abbrev pub at_there : Scanner → Scanner → Scanner
-at_there s t = at_marks s s.front t.there
+at_there s t = at_marks s s.gap_end t.there
 
 -- what a reader does: it reads, and changes only the place of an offence
 pub record HasRead (s t : Scanner) (k : Kind) (x : yaml_context_t) (o : Result code_lexeme_t yaml_refusal_t)
@@ -273,7 +274,7 @@ pub record IsUndecided (s : Scanner) (sparing : Bool) (r : step_t) (at : yaml_ma
   pub allowed : r.allowed ≡ true
   pub alone : s.layout.queue.groups.items ≡ []
   pub room : 1 < deque_capacity s.layout.queue.groups
-  pub kept : sparing ≡ true → closing r.in_flow r.kind r.new.start (reverse s.layout.levels.items) ≡ None
+  pub none_closed : sparing ≡ true → closing r.in_flow r.kind r.new.start (reverse s.layout.levels.items) ≡ None
   pub live : is_live s.limit at r.new ≡ true
 
 -- the lexeme x, of kind k, which comes right there, decides whether it is a key
@@ -290,7 +291,8 @@ pub record Waits (s : Scanner) (r : step_t) (at : yaml_mark_t) : Type 0 where
   pub candidate : is_candidate_kind r.kind ≡ true
   pub stays : is_flow_start r.kind ≡ false
   pub awaited : s.slots.awaited ≡ s.layout.queue.done + 1
-  pub ends : begins_with_end (pending s.layout.queue.early s.layout.queue.front s.layout.queue.groups.items) ≡ false
+  pub ends : begins_with_end (pending s.layout.queue.early s.layout.queue.early_mark s.layout.queue.groups.items)
+      ≡ false
   pub room : length s.layout.queue.groups.items + 1 < deque_capacity s.layout.queue.groups
   pub key : r.allowed ≡ true → is_live s.limit at r.new ≡ true
   pub none : r.allowed ≡ false → s.slots.top ≡ None
@@ -317,9 +319,9 @@ IsFollower s sparing r at false k x = IsDecided s sparing r at k x
 -- a lexeme that was read can be laid, alone or with what comes right after it
 pub record CanLayAll (H : List Laid) (s : Scanner) (r : step_t) (x : yaml_lexeme_t) : Type 0 where
   pub can : CanRead H s r
-  pub read : (p : ℕ) → IsMarkOf s.text.chars s.front p
+  pub read : (p : ℕ) → IsMarkOf s.text.chars s.gap_end p
       → IsRead s.text.chars r.kind r.context.depth r.context.level p x
-  pub kept : lost_after s.limit s.slots (met_in s r) r.new x.reach ≡ None
+  pub none_lost : lost_after s.limit s.slots (met_in s r) r.new x.reach ≡ None
   pub far : x.reach.index < s.near
 
 -- the same scanner after n steps
@@ -334,7 +336,7 @@ made_to s n = record {
   allowed = s.allowed;
   layout = s.layout;
   reach = s.reach;
-  front = s.front;
+  gap_end = s.gap_end;
   there = s.there;
   taken = s.taken;
   made = n;

@@ -71,9 +71,9 @@ AreNested hs = (k n : ℕ) (h g : Held) → k < n → slice_get hs k ≡ Some (S
     → (g.start.line ≡ h.start.line) × (h.start.index ≤ g.start.index)
 
 -- the number of its step, or 0
-abbrev pub step_of : Option Held → ℕ
-step_of None = 0
-step_of (Some h) = h.step
+abbrev pub held_step : Option Held → ℕ
+held_step None = 0
+held_step (Some h) = h.step
 
 -- the candidate that a lexeme of kind k completes at m, of that of its depth
 abbrev pub completed_held : Kind → ℕ → yaml_mark_t → Option Held → Option Held

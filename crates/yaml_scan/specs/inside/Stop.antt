@@ -10,9 +10,9 @@ use Rattle.yaml_scan.specs.declared.stop.stop_t.TheVariants.{MEMORY, FAULT, SINK
 abbrev pub no_fault : Fault
 no_fault = record memory_fault { error = YAML_NO_ERROR }
 
--- the fault of kind memory if memory was refused, and else the one that was kept, if the sink did not refuse a token
+-- the fault of kind memory if memory was refused, and else the one that was stored, if the sink did not refuse a token
 abbrev pub fault_at : stop_t → Option yaml_fault_t → Fault
-fault_at MEMORY kept = memory_fault
+fault_at MEMORY stored = memory_fault
 fault_at FAULT (Some f) = fault_of f
 fault_at FAULT None = no_fault
-fault_at SINK kept = no_fault
+fault_at SINK stored = no_fault

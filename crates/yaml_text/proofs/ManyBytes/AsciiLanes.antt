@@ -7,7 +7,7 @@ use Rattle.std.proofs.Math.Seq.{drop-cons}
 use lib.Bits.{bit_and, bit_xor, and_le_r}
 use lib.Lanes.{zip2, sel_l, top, Each1, number_l, digits_l}
 use Rattle.yaml_text.specs.inside.Singles.{is_single}
-use Rattle.yaml_text.proofs.ManyBytes.SlotLanes.{picked, right_at}
+use Rattle.yaml_text.proofs.ManyBytes.CellLanes.{picked, right_at}
 use Rattle.yaml_text.proofs.ManyBytes.VectorLanes.{upto_sound}
 
 -- ---- low and high bytes by turns make units

@@ -9,7 +9,7 @@ use lib.Bits.{bit_or, bit_and}
 use lib.Lanes.{zip2, sel_l, top, Each1}
 use Rattle.yaml_text.specs.Chars.{is_char}
 use Rattle.yaml_text.specs.inside.Singles.{is_single}
-use Rattle.yaml_text.specs.inside.Slots.{Spells}
+use Rattle.yaml_text.specs.inside.Cells.{Spells}
 use Rattle.yaml_text.proofs.Characters.Utf8Spelling.{two, three}
 use Rattle.yaml_text.proofs.ManyBytes.AsciiFronts.{single_char}
 use Rattle.yaml_text.proofs.ManyBytes.WindowLanes.{and_lane, or_lane}

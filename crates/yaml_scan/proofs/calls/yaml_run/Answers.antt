@@ -16,8 +16,8 @@ use Rattle.yaml_scan.proofs.SessionCalls.ReadingOn.{reads_on}
 use Rattle.yaml_scan.proofs.SessionCalls.TokensTaken.{puts, takes_next}
 use Rattle.yaml_scan.proofs.calls.yaml_run.Goals as goal
 
-pub returns-clause-early : goal.returns-clause-early
-returns-clause-early c = λ e. puts_session c.args.parser.now (map call_of c.args.calls.now) c.args.out.now.items c.answer_all.new.out.items c.answer_all.new.parser
+pub returns-clause-at_start : goal.returns-clause-at_start
+returns-clause-at_start c = λ e. puts_session c.args.parser.now (map call_of c.args.calls.now) c.args.out.now.items c.answer_all.new.out.items c.answer_all.new.parser
     (subst (λ (z : List yaml_answer_t). PutsAnswers decoded_input c.args.parser.now (map call_of c.args.calls.now) z c.answer_all.new.out.items c.answer_all.new.parser) c.in_ok-reserve.ensures.items c.answer_all.ensures) e
 
 -- the answers, appended to what was there when the call began

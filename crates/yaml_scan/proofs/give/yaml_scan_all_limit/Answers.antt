@@ -5,7 +5,7 @@ use Rattle.yaml_text.specs.Fault.{fault_of}
 use Rattle.yaml_scan.specs.Token.{yaml_token_t}
 use Rattle.yaml_scan.specs.All.{ReadsAll}
 use Rattle.yaml_scan.proofs.Texts.AnswerLocality.{reads_alike}
-use Rattle.yaml_scan.proofs.SessionCalls.ListLaws.{reads_in_order, reads_ends, reads_all_ends, reads_keys, reads_lexemes, reads_fault, reads_early}
+use Rattle.yaml_scan.proofs.SessionCalls.ListLaws.{reads_in_order, reads_ends, reads_all_ends, reads_keys, reads_lexemes, reads_fault, reads_at_start}
 use Rattle.yaml_scan.proofs.SessionCalls.ListWords.{reads_have_lines}
 use Rattle.yaml_scan.proofs.CountedMarks.CallMarks.{reads_are_counted}
 use Rattle.yaml_scan.proofs.give.yaml_scan_all_limit.Goals as goal
@@ -17,8 +17,8 @@ returns-clause-answers c =
     let given : map token_of c.yaml_scan_to.new.sink.tokens.items ≡ e.tokens = e.given ∙ ap (λ (z : List code_token_t). map token_of z ++ e.tokens) c.new.ensures.items in
     subst (λ (z : List yaml_token_t). ReadsAll c.args.limit c.args.setting c.args.input.now z (option_map fault_of c.in_ok-fault.fault)) (sym given) e.reads
 
-pub returns-clause-early : goal.returns-clause-early
-returns-clause-early c = reads_early c.args.limit c.args.setting c.args.input.now (map token_of c.yaml_scan_to.new.sink.tokens.items) (option_map fault_of c.in_ok-fault.fault) (returns-clause-answers c)
+pub returns-clause-at_start : goal.returns-clause-at_start
+returns-clause-at_start c = reads_at_start c.args.limit c.args.setting c.args.input.now (map token_of c.yaml_scan_to.new.sink.tokens.items) (option_map fault_of c.in_ok-fault.fault) (returns-clause-answers c)
 
 pub returns-clause-order : goal.returns-clause-order
 returns-clause-order c = reads_in_order c.args.limit c.args.setting c.args.input.now (map token_of c.yaml_scan_to.new.sink.tokens.items) (option_map fault_of c.in_ok-fault.fault) (returns-clause-answers c)

@@ -114,10 +114,10 @@ put_or_return-requires-clause-words g c = let i = c.parser-2.inside in
     let o = sym (ap (λ (p : Parser). p.session.over) c.parser-2.view_is) ∙ over in
     let h : IsShown i.setting i.input.now t = record { stands = n.stands; still_open = n.still_open; settled = n.settled } in
     let k = shown_settled i.setting i.input.now t h in
-    let kept = c.take_head-token.new.state.fault in
-    let fault = fault_in i.session.failed kept in
+    let stored = c.take_head-token.new.state.fault in
+    let fault = fault_in i.session.failed stored in
     let q : Parser = record { input = i.input.now; setting = i.setting; limit = t.limit; session = record { taken = t.taken; steps = t.made; peeked = true; over = false; fault = fault } } in
-    let s = show_token i.setting i.input.now (scanner_in i) t n i.session.peeked fault c.args.parser.now (e ∙ open_as (parser_of i) fault over (none_failed i.session.failed i.state.fault kept (c.parser-2.invariant.failed over))) false refl in
+    let s = show_token i.setting i.input.now (scanner_in i) t n i.session.peeked fault c.args.parser.now (e ∙ open_as (parser_of i) fault over (none_failed i.session.failed i.state.fault stored (c.parser-2.invariant.failed over))) false refl in
     let r : Parser = record { input = i.input.now; setting = i.setting; limit = u.limit; session = record { taken = u.taken; steps = u.made; peeked = false; over = is_last_type (type_of x.token_data); fault = fault } } in
     let a : Calls decoded_input SCAN c.args.parser.now (TOKEN x) r = scan_shown c.args.parser.now q o x r s (take_told_of i.setting i.input.now t t u x k p refl fault q refl) (take_left_of i.setting i.input.now t t u x k p refl fault q refl (is_last_type (type_of x.token_data)) refl) in
     scan_has_words c.args.parser.now x r a
@@ -134,10 +134,10 @@ returns-clause-next g c = let i = c.parser-2.inside in
     let o = sym (ap (λ (p : Parser). p.session.over) c.parser-2.view_is) ∙ over in
     let h : IsShown i.setting i.input.now t = record { stands = n.stands; still_open = n.still_open; settled = n.settled } in
     let k = shown_settled i.setting i.input.now t h in
-    let kept = c.take_head-token.new.state.fault in
-    let fault = fault_in i.session.failed kept in
+    let stored = c.take_head-token.new.state.fault in
+    let fault = fault_in i.session.failed stored in
     let q : Parser = record { input = i.input.now; setting = i.setting; limit = t.limit; session = record { taken = t.taken; steps = t.made; peeked = true; over = false; fault = fault } } in
-    let s = show_token i.setting i.input.now (scanner_in i) t n i.session.peeked fault c.args.parser.now (e ∙ open_as (parser_of i) fault over (none_failed i.session.failed i.state.fault kept (c.parser-2.invariant.failed over))) false refl in
+    let s = show_token i.setting i.input.now (scanner_in i) t n i.session.peeked fault c.args.parser.now (e ∙ open_as (parser_of i) fault over (none_failed i.session.failed i.state.fault stored (c.parser-2.invariant.failed over))) false refl in
     let r : Parser = record { input = i.input.now; setting = i.setting; limit = u.limit; session = record { taken = u.taken; steps = u.made; peeked = false; over = is_last_type (type_of x.token_data); fault = fault } } in
     let a : Calls decoded_input SCAN c.args.parser.now (TOKEN x) r = scan_shown c.args.parser.now q o x r s (take_told_of i.setting i.input.now t t u x k p refl fault q refl) (take_left_of i.setting i.input.now t t u x k p refl fault q refl (is_last_type (type_of x.token_data)) refl) in
     let d = c.args.parser.now in
@@ -158,7 +158,7 @@ invariant_of-parser g c = let i = c.parser-2.inside in
       | inr w ↦ absurd (c.requires w)
       | inl z ↦ (let k = z.1 in
           let w = keeps_stopped i.setting i.input.now (scanner_in i) (scanner_of c.send.new.text c.send.new.state) k (stands_ready i.setting i.input.now (scanner_in i) (v.ready over)) i.state.layout.queue.done (record { queued = v.queued; few = v.few }) in
-          rw (c.end.ensures.session, c.end.ensures.kept) (record {
+          rw (c.end.ensures.session, c.end.ensures.stored) (record {
             ready = λ n. absurd (false≢true (sym n));
             peeked = λ n. absurd (false≢true n);
             failed = λ n. absurd (false≢true (sym n));
@@ -202,5 +202,5 @@ returns-in-Err-send-clause-ended g c = let i = c.parser-2.inside in
           let r : Parser = record { input = i.input.now; setting = i.setting; limit = t.limit; session = record { taken = t.taken; steps = t.made; peeked = false; over = true; fault = Some (fault_of w) } } in
           let s = show_fault_on i.setting i.input.now (scanner_in i) t i.session.peeked (fault_in i.session.failed i.state.fault) w f.1 c.args.parser.now (e ∙ open_session (parser_of i) over) (subst (λ (x : Fault). IsShort i.setting i.input.now (scanner_in i) x ⊎ IsEnded i.setting i.input.now (scanner_in i) t x) (sym c.fault_at-fault.ensures) f.0) peeked in
           let a : Calls decoded_input SCAN c.args.parser.now (scan_result (Err w)) r = scan_not_shown c.args.parser.now r o w s in
-          rw (c.end.ensures.session, c.end.ensures.kept) a)
+          rw (c.end.ensures.session, c.end.ensures.stored) a)
     ]

@@ -11,7 +11,7 @@ loop-empty-init c = record { long = refl; room = refl; swept = refl; below = sub
 pub returns-then-is_some : goal.returns-then-is_some
 returns-then-is_some c = let v = c.loop-empty.invariant in
     let e : slice_get c.loop-empty.slots.items c.loop-empty.empty ≡ Some c.index.result.now = slice_get_read c.loop-empty.slots.items (length c.loop-empty.slots.items) c.loop-empty.empty c.index.result.now refl (omega arith) c.index.ensures in
-    let q = swept_to c.args.limit c.args.mark c.args.slots.now.items c.loop-empty.slots.items c.loop-empty.empty c.index.result.now c.requires.nested v.held v.below e (ap is_some (sym c.kept.ensures) ∙ sym c.is_some.ensures ∙ c.if-is_some.true) in
+    let q = swept_to c.args.limit c.args.mark c.args.slots.now.items c.loop-empty.slots.items c.loop-empty.empty c.index.result.now c.requires.nested v.held v.below e (ap is_some (sym c.still_held.ensures) ∙ sym c.is_some.ensures ∙ c.if-is_some.true) in
     record { slots = sym q.0 ∙ v.swept; len = v.long; capacity = v.room; empty = q.1 }
 
 pub loop-empty-preserved : goal.loop-empty-preserved
@@ -21,7 +21,7 @@ loop-empty-preserved c = let v = c.loop-empty.invariant in
     record {
       long = v.long;
       room = v.room;
-      swept = set_swept c.args.limit c.args.mark c.loop-empty.slots.items c.loop-empty.empty c.index.result.now e (none_at _ (ap is_some (sym c.kept.ensures) ∙ sym c.is_some.ensures ∙ c.if-is_some.false)) ∙ v.swept;
+      swept = set_swept c.args.limit c.args.mark c.loop-empty.slots.items c.loop-empty.empty c.index.result.now e (none_at _ (ap is_some (sym c.still_held.ensures) ∙ sym c.is_some.ensures ∙ c.if-is_some.false)) ∙ v.swept;
       below = set_empty c.loop-empty.empty c.loop-empty.slots.items l v.below;
       held = λ k h f. v.held k h (set_held c.loop-empty.slots.items c.loop-empty.empty k h l f);
     }

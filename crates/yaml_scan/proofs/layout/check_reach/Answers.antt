@@ -2,7 +2,7 @@ use Rattle.std.proofs.Common.{◌⊎◌, ◌≤◌, ◌≡◌, ◌∙◌, ℕ, r
 use Rattle.std.specs.Option.{is_some}
 use Rattle.yaml_lexeme.specs.LexemeOf.{lexeme_of}
 use Rattle.yaml_scan.specs.SourceOf.{source_of}
-use Rattle.yaml_scan.specs.Step.{front_of}
+use Rattle.yaml_scan.specs.Step.{gap_end_of}
 use Rattle.yaml_scan.specs.inside.Scanner.{scanner_of}
 use Rattle.yaml_scan.specs.inside.Scanning.{lost_after, met_in}
 use Rattle.yaml_scan.specs.inside.Slots.{Held, lost_held}
@@ -25,7 +25,7 @@ stop_after-requires g c =
       x,
       record {
         can = read_in g.before s q (record s { there = x.reach }) can;
-        read = subst (λ (d : ℕ). IsRead s.text.chars q.kind d q.context.level (front_of (source_of s.text.chars) g.before) x) can.depth (c.requires.1 (front_of (source_of s.text.chars) g.before) can.met.front);
+        read = subst (λ (d : ℕ). IsRead s.text.chars q.kind d q.context.level (gap_end_of (source_of s.text.chars) g.before) x) can.depth (c.requires.1 (gap_end_of (source_of s.text.chars) g.before) can.met.gap_end);
         there = refl;
         stops = stops;
       },

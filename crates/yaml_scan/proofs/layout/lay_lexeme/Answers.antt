@@ -32,13 +32,13 @@ returns-clause-laid g c = λ X d b e t p T.
     let k = c.put_key-opens.ensures.rest in
     let y = c.keep_early.ensures in
     let new : group_t = record { ends = c.close_levels-closed.result.ends; opens = c.put_key-opens.result; key = false; token = t } in
-    let kept : c.keep_early.new.self.groups.items ≡ c.put_key-opens.new.self.queue.groups.items = ap (λ (q : VecDeque group_t Global). q.items) y.groups in
+    let same_groups : c.keep_early.new.self.groups.items ≡ c.put_key-opens.new.self.queue.groups.items = ap (λ (q : VecDeque group_t Global). q.items) y.groups in
     put_advances g.before (scanner_of X c.args.state.now) (groups_in (scanner_of X c.args.state.now)) (met_in (scanner_of X c.args.state.now) c.args.step) c.args.step.in_flow c.args.step.new (read_to d b e c.args.reach c.args.passed_break) p c.keep_candidates.new.slots c.is_allowed_after-state.result
     record { levels = c.put_key-opens.new.self.levels; queue = c.keep_early.new.self } (c.keep_early.new.self.groups.items ++ new ∷ []) record {
-      kept = c.close_levels-closed.new.levels.items;
-      kept_is = c.close_levels-closed.ensures.levels;
+      left = c.close_levels-closed.new.levels.items;
+      left_is = c.close_levels-closed.ensures.levels;
       early = λ e. y.early ∙ c.close_levels-closed.ensures.none e;
-      front = λ l. y.front (let e = y.early in omega arith);
+      early_mark = λ l. y.early_mark (let e = y.early in omega arith);
       completed = c.completed_by-completed.result;
       completed_is = c.completed_by-completed.ensures;
       none = c.is_none.result;
@@ -49,9 +49,9 @@ returns-clause-laid g c = λ X d b e t p T.
       key = refl;
       opens = c.put_key-opens.ensures.opens;
       levels = c.put_key-opens.ensures.levels;
-      groups = ap (λ (ys : List group_t). ys ++ new ∷ []) (kept ∙ c.put_key-opens.ensures.groups);
+      groups = ap (λ (ys : List group_t). ys ++ new ∷ []) (same_groups ∙ c.put_key-opens.ensures.groups);
       long = (let l = k.long in
-          let m = ap (λ (ys : List group_t). length ys) kept in
+          let m = ap (λ (ys : List group_t). length ys) same_groups in
           let o = length-append c.keep_early.new.self.groups.items (new ∷ []) in
           omega arith);
       done = y.done ∙ k.done;

@@ -15,7 +15,7 @@ use Rattle.yaml_scan.specs.inside.Ready.{fault_in, parser_of, IsShown, IsShort, 
 use Rattle.yaml_scan.specs.Session.Call.{SCAN}
 use Rattle.yaml_scan.proofs.CountedMarks.CallMarks.{call_is_counted}
 use Rattle.yaml_scan.proofs.Texts.AnswerLocality.{scanned_alike}
-use Rattle.yaml_scan.proofs.RunningCalls.CallAnswers.{show_token, show_fault_on, open_session, open_as, none_failed, shown_settled, stands_u, open_u, last_is, take_told_of, take_left_of, scan_over, scan_shown, scan_not_shown, bare, early}
+use Rattle.yaml_scan.proofs.RunningCalls.CallAnswers.{show_token, show_fault_on, open_session, open_as, none_failed, shown_settled, stands_u, open_u, last_is, take_told_of, take_left_of, scan_over, scan_shown, scan_not_shown, bare, at_start}
 use Rattle.yaml_scan.proofs.RunningCalls.ParserInvariant.{stands_ready, keeps_settled, keeps_stopped, keeps_taken, reach_in, reach_stopped}
 use Rattle.yaml_scan.proofs.RunningQueue.StepsWaiting.{done_is}
 use Rattle.yaml_scan.proofs.parser.yaml_parser_scan.Goals as goal
@@ -43,7 +43,7 @@ invariant_of-parser c = let i = c.parser.inside in let v = c.parser.invariant in
 pub invariant_of-parser-in-Err : goal.invariant_of-parser-in-Err
 invariant_of-parser-in-Err c = let i = c.parser.inside in let v = c.parser.invariant in let k = c.in-Err.ensures.1 in
     let w = keeps_stopped i.setting i.input.now (scanner_in i) (scanner_of c.settle.new.text c.settle.new.state) k (stands_ready i.setting i.input.now (scanner_in i) (v.ready c.if-parser.false)) i.state.layout.queue.done (record { queued = v.queued; few = v.few }) in
-    rw (c.end.ensures.session, c.end.ensures.kept) (record {
+    rw (c.end.ensures.session, c.end.ensures.stored) (record {
       ready = λ n. absurd (false≢true (sym n));
       peeked = λ n. absurd (false≢true n);
       failed = λ n. absurd (false≢true (sym n));
@@ -62,13 +62,13 @@ returns-in-Ok c = let i = c.parser.inside in let g = c.in-Ok.ensures in
     let o = sym (ap (λ (p : Parser). p.session.over) c.parser.view_is) ∙ c.if-parser.false in
     let h : IsShown i.setting i.input.now t = record { stands = g.stands; still_open = g.still_open; settled = g.settled } in
     let k = shown_settled i.setting i.input.now t h in
-    let kept = c.take_head-token.new.state.fault in
-    let fault = fault_in i.session.failed kept in
+    let stored = c.take_head-token.new.state.fault in
+    let fault = fault_in i.session.failed stored in
     let q : Parser = record { input = i.input.now; setting = i.setting; limit = t.limit; session = record { taken = t.taken; steps = t.made; peeked = true; over = false; fault = fault } } in
-    let s = show_token i.setting i.input.now (scanner_in i) t g i.session.peeked fault c.args.parser.now (e ∙ open_as (parser_of i) fault c.if-parser.false (none_failed i.session.failed i.state.fault kept (c.parser.invariant.failed c.if-parser.false))) false refl in
+    let s = show_token i.setting i.input.now (scanner_in i) t g i.session.peeked fault c.args.parser.now (e ∙ open_as (parser_of i) fault c.if-parser.false (none_failed i.session.failed i.state.fault stored (c.parser.invariant.failed c.if-parser.false))) false refl in
     let r : Parser = record { input = i.input.now; setting = i.setting; limit = u.limit; session = record { taken = u.taken; steps = u.made; peeked = false; over = is_last_type (type_of x.token_data); fault = fault } } in
     let a : Calls decoded_input SCAN c.args.parser.now (TOKEN x) r = scan_shown c.args.parser.now q o x r s (take_told_of i.setting i.input.now t t u x k p refl fault q refl) (take_left_of i.setting i.input.now t t u x k p refl fault q refl (is_last_type (type_of x.token_data)) refl) in
-    rw c.pass.ensures (record { answers = a; bare = bare SCAN c.args.parser.now (TOKEN x) r a; early = early SCAN c.args.parser.now (TOKEN x) r a; local = scanned_alike c.args.parser.now (TOKEN x) r a; marks = call_is_counted SCAN c.args.parser.now (TOKEN x) r a })
+    rw c.pass.ensures (record { answers = a; bare = bare SCAN c.args.parser.now (TOKEN x) r a; at_start = at_start SCAN c.args.parser.now (TOKEN x) r a; local = scanned_alike c.args.parser.now (TOKEN x) r a; marks = call_is_counted SCAN c.args.parser.now (TOKEN x) r a })
 
 pub returns-in-Err : goal.returns-in-Err
 returns-in-Err c = let i = c.parser.inside in let f = c.in-Err.ensures in let t = (scanner_of c.settle.new.text c.settle.new.state) in let w = c.fault_at-fault.result in
@@ -77,7 +77,7 @@ returns-in-Err c = let i = c.parser.inside in let f = c.in-Err.ensures in let t 
     let r : Parser = record { input = i.input.now; setting = i.setting; limit = t.limit; session = record { taken = t.taken; steps = t.made; peeked = false; over = true; fault = Some (fault_of w) } } in
     let s = show_fault_on i.setting i.input.now (scanner_in i) t i.session.peeked (fault_in i.session.failed i.state.fault) w f.1 c.args.parser.now (e ∙ open_session (parser_of i) c.if-parser.false) (subst (λ (x : Fault). IsShort i.setting i.input.now (scanner_in i) x ⊎ IsEnded i.setting i.input.now (scanner_in i) t x) (sym c.fault_at-fault.ensures) f.0) f.2 in
     let a : Calls decoded_input SCAN c.args.parser.now (scan_result (Err w)) r = scan_not_shown c.args.parser.now r o w s in
-    rw (c.end.ensures.session, c.end.ensures.kept) (record { answers = a; bare = bare SCAN c.args.parser.now (scan_result (Err w)) r a; early = early SCAN c.args.parser.now (scan_result (Err w)) r a; local = scanned_alike c.args.parser.now (scan_result (Err w)) r a; marks = call_is_counted SCAN c.args.parser.now (scan_result (Err w)) r a })
+    rw (c.end.ensures.session, c.end.ensures.stored) (record { answers = a; bare = bare SCAN c.args.parser.now (scan_result (Err w)) r a; at_start = at_start SCAN c.args.parser.now (scan_result (Err w)) r a; local = scanned_alike c.args.parser.now (scan_result (Err w)) r a; marks = call_is_counted SCAN c.args.parser.now (scan_result (Err w)) r a })
 
 pub returns-then-parser-clause-local : goal.returns-then-parser-clause-local
 returns-then-parser-clause-local c =

@@ -17,7 +17,7 @@ pub returns-then-has_lead : goal.returns-then-has_lead
 returns-then-has_lead c = λ i k.
     let s = scanner_of c.args._text.now c.args.state.now in
     let n = k.settled in
-    let l : 0 < length (pending s.layout.queue.early s.layout.queue.front s.layout.queue.groups.items) = ltb-true _ _ (sym c.has_lead.ensures ∙ c.if-has_lead.true) in
+    let l : 0 < length (pending s.layout.queue.early s.layout.queue.early_mark s.layout.queue.groups.items) = ltb-true _ _ (sym c.has_lead.ensures ∙ c.if-has_lead.true) in
     let z = lead_silent s.text.encoding s.layout.queue l in
     let x : yaml_token_t = handed_out s.text.encoding z.0 in
     let f = lead_first s.text.encoding s.layout.queue (drop s.taken (offline (history s))) x n.stands.runs.holds.queue.tokens (only_first s.text.encoding s.layout.queue z.0 z.1 z.2) l in
@@ -27,7 +27,7 @@ pub returns-in-Some : goal.returns-in-Some
 returns-in-Some c = λ i k.
     let s = scanner_of c.args._text.now c.args.state.now in
     let n = k.settled in
-    let l : length (pending s.layout.queue.early s.layout.queue.front s.layout.queue.groups.items) ≤ 0 = ltb-false _ _ (sym c.has_lead.ensures ∙ c.if-has_lead.false) in
+    let l : length (pending s.layout.queue.early s.layout.queue.early_mark s.layout.queue.groups.items) ≤ 0 = ltb-false _ _ (sym c.has_lead.ensures ∙ c.if-has_lead.false) in
     let x : yaml_token_t = token_of c.in-Some.head.now.token in
     let f = token_first s.text.encoding s.layout.queue (drop s.taken (offline (history s))) c.in-Some.head.now n.stands.runs.holds.queue.tokens (groups_some s n.stands.runs n.settled) c.in-Some.ensures.lookup l in
     c.said_len.ensures ∙ ap (λ (y : yaml_token_t). said_len y.token_data) (first_shown i c.args._text.now c.args.state.now k x f)

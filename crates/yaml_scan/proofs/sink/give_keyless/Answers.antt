@@ -12,4 +12,4 @@ returns-in-Ok g c =
     let m = y.token.start_mark in
     let xs = ends_at y.ends m ++ start_at y.opens m in
     subst (λ (ls : List Token). Gives (λ ts. g.S.yaml_token_sink_t.took c.args.sink.now ts c.give.new.sink) g.S.yaml_token_sink_t.may_refuse (told_leads ls ++ token_of y.token ∷ []) c.give.result) (sym (keyless_leads y c.requires.key))
-    (gives_after g.S.yaml_token_sink_t.took g.met.S.yaml_token_sink_t.took_more c.args.sink.now c.give_front.new.sink c.give.new.sink _ (told_leads xs) (token_of y.token ∷ []) c.give.result c.in-Ok.ensures c.give.ensures)
+    (gives_after g.S.yaml_token_sink_t.took g.met.S.yaml_token_sink_t.took_more c.args.sink.now c.give_blocks_of.new.sink c.give.new.sink _ (told_leads xs) (token_of y.token ∷ []) c.give.result c.in-Ok.ensures c.give.ensures)

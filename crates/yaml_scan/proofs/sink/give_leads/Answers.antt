@@ -13,4 +13,4 @@ returns-in-Ok g c =
     let m = y.token.start_mark in
     let ks : List Token = if y.key then InsertedKey m ∷ [] else [] in
     rw (← append_assoc (ends_at y.ends m) (start_at y.opens m) ks, told_append (ends_at y.ends m ++ start_at y.opens m) ks)
-    (gives_after g.S.yaml_token_sink_t.took g.met.S.yaml_token_sink_t.took_more c.args.sink.now c.give_front.new.sink c.give_key.new.sink _ (told_leads (ends_at y.ends m ++ start_at y.opens m)) (told_leads ks) c.give_key.result c.in-Ok.ensures c.give_key.ensures)
+    (gives_after g.S.yaml_token_sink_t.took g.met.S.yaml_token_sink_t.took_more c.args.sink.now c.give_blocks_of.new.sink c.give_key.new.sink _ (told_leads (ends_at y.ends m ++ start_at y.opens m)) (told_leads ks) c.give_key.result c.in-Ok.ensures c.give_key.ensures)

@@ -31,7 +31,7 @@ pub returns : goal.returns
 returns g c = let w = c.requires.0 in let s = (scanner_of c.args.text.now c.args.state.now) in let a = c.requires.1 in
     let refused : refused_in s c.args.in_flow c.args.kind c.args.allowed ≡ None = sym (c.refused_by.ensures c.args.text.now) ∙ ap option_copied (none_or c.refused_by.result (sym c.is_some.ensures ∙ c.if-is_some.false)) in
     let cleared : cleared_in s c.args.in_flow c.args.kind c.args.allowed ≡ None = sym (c.cleared_by.ensures c.args.text.now) ∙ none_or c.cleared_by.result (sym c.is_some-2.ensures ∙ c.if-is_some-2.false) in (
-      subst (λ (b : Bool). IsMet g.before s (record { kind = c.args.kind; front = s.front; allowed = b })) (sym a)
+      subst (λ (b : Bool). IsMet g.before s (record { kind = c.args.kind; gap_end = s.gap_end; allowed = b })) (sym a)
           (met_there g.before s c.args.in_flow w.passes c.args.kind w.is_kind (ap (λ (b : Bool). refused_in s c.args.in_flow c.args.kind b) (sym a) ∙ refused) (ap (λ (b : Bool). cleared_in s c.args.in_flow c.args.kind b) (sym a) ∙ cleared)),
       refl,
     )

@@ -7,7 +7,7 @@ use Rattle.yaml_scan.specs.inside.Slots.{Held}
 use Rattle.yaml_text.specs.declared.types.yaml_mark_t.{yaml_mark_t}
 use Rattle.yaml_text.specs.Fault.{scanner_fault}
 use Rattle.yaml_scan.specs.inside.Scanning.{Offends, lost_after, met_in}
-use Rattle.yaml_scan.proofs.RunningStep.StepTests.{falls_in, front_line, lost_again, near_there, stale_there}
+use Rattle.yaml_scan.proofs.RunningStep.StepTests.{falls_in, gap_end_line, lost_again, near_there, stale_there}
 use Rattle.yaml_scan.proofs.stop.stop_after.Goals as goal
 
 pub stop_near-requires : goal.stop_near-requires
@@ -18,7 +18,7 @@ pub step_of-step-requires-clause-falls : goal.step_of-step-requires-clause-falls
 step_of-step-requires-clause-falls g c = let b = c.requires.2 in falls_in g.before (c.args.state.now.made + 1) (scanner_of c.args.text.now c.args.state.now) b.can.can.holds
 
 pub step_of-step-requires-clause-line : goal.step_of-step-requires-clause-line
-step_of-step-requires-clause-line g c = let b = c.requires.2 in front_line g.before (scanner_of c.args.text.now c.args.state.now) b.can.can.small b.can.met.front
+step_of-step-requires-clause-line g c = let b = c.requires.2 in gap_end_line g.before (scanner_of c.args.text.now c.args.state.now) b.can.can.small b.can.met.gap_end
 
 pub step_of-step-requires-clause-flow : goal.step_of-step-requires-clause-flow
 step_of-step-requires-clause-flow g c = let b = c.requires.2 in sym c.requires.3 ∙ b.can.is_new.flow

@@ -7,11 +7,11 @@ use Rattle.yaml_scan.specs.Step.{no_colon, in_simple_key}
 use Rattle.yaml_scan.specs.inside.Scanner.{scanner_of}
 use Rattle.yaml_scan.specs.inside.Slots.{Held}
 use Rattle.yaml_scan.specs.inside.Scanning.{Offends, allowed_in, cleared_in}
-use Rattle.yaml_scan.proofs.RunningStep.StepTests.{cleared_there, front_line}
+use Rattle.yaml_scan.proofs.RunningStep.StepTests.{cleared_there, gap_end_line}
 use Rattle.yaml_scan.proofs.stop.stop_at_start.Goals as goal
 
 pub start_after-requires : goal.start_after-requires
-start_after-requires g c = let w = c.requires.0.passes in front_line g.before (scanner_of c.args.text.now c.args.state.now) w.can.small w.front
+start_after-requires g c = let w = c.requires.0.passes in gap_end_line g.before (scanner_of c.args.text.now c.args.state.now) w.can.small w.gap_end
 
 pub stop_without-requires : goal.stop_without-requires
 stop_without-requires g c = let w = c.requires.0.passes in let s = (scanner_of c.args.text.now c.args.state.now) in (

@@ -6,6 +6,6 @@ use Rattle.yaml_text.proofs.utf16.are_plain.Goals as goal
 
 pub returns : goal.returns
 returns c = λ none k lt.
-    let v = c.shown.result in
+    let v = c.stand_ins.result in
     let all = all_single v c.others.result c.others.ensures (eqb-true _ _ none) in
-    rw (c.halves.ensures.units k lt) (c.shown.ensures.units k lt (prefix_len_passes is_single v k 0 (omega (arith, all, c.shown.ensures.long))))
+    rw (c.halves.ensures.units k lt) (c.stand_ins.ensures.units k lt (prefix_len_passes is_single v k 0 (omega (arith, all, c.stand_ins.ensures.long))))

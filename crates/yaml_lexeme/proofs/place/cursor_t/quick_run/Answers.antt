@@ -11,7 +11,7 @@ overflow_sub-start c =
 pub returns-clause-value : goal.returns-clause-value
 returns-clause-value c =
     let e = c.skip_rest.ensures ∙ c.skip_quiet.ensures.goes in
-    c.front.ensures ∙ (run_bytes (class_test c.args.class) c.args.self.now c.skip_rest.new.self _ _ e c.left-start.ensures c.left-left.ensures).1
+    c.first_bytes.ensures ∙ (run_bytes (class_test c.args.class) c.args.self.now c.skip_rest.new.self _ _ e c.left-start.ensures c.left-left.ensures).1
 
 pub returns-clause-end : goal.returns-clause-end
 returns-clause-end c = c.skip_rest.ensures ∙ c.skip_quiet.ensures.goes

@@ -9,4 +9,4 @@ overflow_sub-start c =
 
 pub returns-clause-value : goal.returns-clause-value
 returns-clause-value c =
-    c.front.ensures ∙ (run_bytes (class_test c.args.class) c.args.self.now c.skip_far.new.self _ _ c.skip_far.ensures c.left-start.ensures c.left-left.ensures).1
+    c.first_bytes.ensures ∙ (run_bytes (class_test c.args.class) c.args.self.now c.skip_far.new.self _ _ c.skip_far.ensures c.left-start.ensures c.left-left.ensures).1

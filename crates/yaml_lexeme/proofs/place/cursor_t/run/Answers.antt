@@ -27,7 +27,7 @@ pub returns-clause-value : goal.returns-clause-value
 returns-clause-value c =
     let off : class_test c.args.class (first c.run.self) ≡ false = cc in
     let e : c.run.self ≡ after_run (class_test c.args.class) c.args.self.now = sym (after_none (class_test c.args.class) c.run.self off) ∙ c.run.invariant in
-    c.front.ensures ∙ (run_bytes (class_test c.args.class) c.args.self.now c.run.self _ _ e c.left-start.ensures c.left-left.ensures).1
+    c.first_bytes.ensures ∙ (run_bytes (class_test c.args.class) c.args.self.now c.run.self _ _ e c.left-start.ensures c.left-left.ensures).1
 
 pub returns-clause-end : goal.returns-clause-end
 returns-clause-end c =

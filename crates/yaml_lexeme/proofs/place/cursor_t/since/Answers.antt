@@ -14,4 +14,4 @@ pub returns : goal.returns
 returns c = λ n e.
     let whole : c.start.inside.bytes.now ≡ utf8 c.args.start.now.rest = sym c.start.invariant.0.spelled ∙ ap (λ (p : Place). utf8 p.rest) c.start.view_is in
     let left : c.self.inside.bytes.now ≡ utf8 c.args.self.now.rest = sym c.self.invariant.0.spelled ∙ ap (λ (p : Place). utf8 p.rest) c.self.view_is in
-    c.front.ensures ∙ (skip_bytes n c.args.start.now c.args.self.now _ _ e whole left).1
+    c.first_bytes.ensures ∙ (skip_bytes n c.args.start.now c.args.self.now _ _ e whole left).1

@@ -7,7 +7,7 @@ use Rattle.yaml_lexeme.proofs.place.cursor_t.skip_solid.Goals.{After-trimmed-kep
 
 back : (c : After-trimmed-kept) → Back c.args.class c.self.inside.mark c.self.inside.bytes.now c.args.self.now c.quiet_len-n.result.0 c.quiet_len-n.result.1 (length c.trimmed-kept.result.now)
 back c =
-    let held = c.trimmed-kept.ensures ∙ ap trim c.front.ensures in
+    let held = c.trimmed-kept.ensures ∙ ap trim c.first_bytes.ensures in
     backs c.args.class c.self.inside.mark c.self.inside.bytes.now c.args.self.now c.quiet_len-n.result.0 c.quiet_len-n.result.1 (length c.trimmed-kept.result.now) c.requires c.self.invariant.0 c.self.view_is (c.quiet_len-n.ensures.line c.requires) c.quiet_len-n.ensures.chars (ap length held)
 
 pub overflow_sub-self : goal.overflow_sub-self

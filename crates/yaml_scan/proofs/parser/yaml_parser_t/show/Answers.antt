@@ -26,7 +26,7 @@ invariant_of-self c = let i = c.self.inside in let v = c.self.invariant in let k
 pub invariant_of-self-in-Err : goal.invariant_of-self-in-Err
 invariant_of-self-in-Err c = let i = c.self.inside in let v = c.self.invariant in let k = c.in-Err.ensures.1 in
     let w = keeps_stopped i.setting i.input.now (scanner_in i) (scanner_of c.settle.new.text c.settle.new.state) k (stands_ready i.setting i.input.now (scanner_in i) (v.ready c.if-self.false)) i.state.layout.queue.done (record { queued = v.queued; few = v.few }) in
-    rw (c.end.ensures.session, c.end.ensures.kept) (record {
+    rw (c.end.ensures.session, c.end.ensures.stored) (record {
       ready = λ n. absurd (false≢true (sym n));
       peeked = λ n. absurd (false≢true n);
       failed = λ n. absurd (false≢true (sym n));
@@ -46,4 +46,4 @@ returns-in-Ok c = let i = c.self.inside in
 pub returns-in-Err : goal.returns-in-Err
 returns-in-Err c = let i = c.self.inside in let f = c.in-Err.ensures in
     let e : c.args.self.now ≡ parser_of i = sym c.self.view_is in
-    rw (c.end.ensures.session, c.end.ensures.kept) (show_fault_of i.setting i.input.now (scanner_in i) (scanner_of c.settle.new.text c.settle.new.state) i.session.peeked (fault_in i.session.failed i.state.fault) c.fault_at-fault.result f.1 c.args.self.now (e ∙ open_session (parser_of i) c.if-self.false) (subst (λ (x : Fault). IsShort i.setting i.input.now (scanner_in i) x ⊎ IsEnded i.setting i.input.now (scanner_in i) (scanner_of c.settle.new.text c.settle.new.state) x) (sym c.fault_at-fault.ensures) f.0) f.2)
+    rw (c.end.ensures.session, c.end.ensures.stored) (show_fault_of i.setting i.input.now (scanner_in i) (scanner_of c.settle.new.text c.settle.new.state) i.session.peeked (fault_in i.session.failed i.state.fault) c.fault_at-fault.result f.1 c.args.self.now (e ∙ open_session (parser_of i) c.if-self.false) (subst (λ (x : Fault). IsShort i.setting i.input.now (scanner_in i) x ⊎ IsEnded i.setting i.input.now (scanner_in i) (scanner_of c.settle.new.text c.settle.new.state) x) (sym c.fault_at-fault.ensures) f.0) f.2)

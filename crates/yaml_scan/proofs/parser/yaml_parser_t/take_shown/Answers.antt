@@ -35,9 +35,9 @@ returns-clause-token c = let i = c.self.inside in let v = c.self.invariant in
     let r = ap (λ (z : Parser). z.session.peeked) c.self.view_is ∙ c.requires in
     let h = v.peeked r in
     let e : c.args.self.now ≡ parser_of i = sym c.self.view_is in
-    let kept = c.take_head-token.new.state.fault in
-    let fault = fault_in i.session.failed kept in
-    take_told_of i.setting i.input.now s s u x (shown_settled i.setting i.input.now s h.1) p refl fault c.args.self.now (e ∙ shown_as (parser_of i) fault h.0 r (none_failed i.session.failed i.state.fault kept (v.failed h.0)))
+    let stored = c.take_head-token.new.state.fault in
+    let fault = fault_in i.session.failed stored in
+    take_told_of i.setting i.input.now s s u x (shown_settled i.setting i.input.now s h.1) p refl fault c.args.self.now (e ∙ shown_as (parser_of i) fault h.0 r (none_failed i.session.failed i.state.fault stored (v.failed h.0)))
 
 pub returns-clause-left : goal.returns-clause-left
 returns-clause-left c = let i = c.self.inside in let v = c.self.invariant in
@@ -45,6 +45,6 @@ returns-clause-left c = let i = c.self.inside in let v = c.self.invariant in
     let r = ap (λ (z : Parser). z.session.peeked) c.self.view_is ∙ c.requires in
     let h = v.peeked r in
     let e : c.args.self.now ≡ parser_of i = sym c.self.view_is in
-    let kept = c.take_head-token.new.state.fault in
-    let fault = fault_in i.session.failed kept in
-    rw c.pass.ensures (take_left_of i.setting i.input.now s s u x (shown_settled i.setting i.input.now s h.1) p refl fault c.args.self.now (e ∙ shown_as (parser_of i) fault h.0 r (none_failed i.session.failed i.state.fault kept (v.failed h.0))) (is_last_type (type_of x.token_data)) refl)
+    let stored = c.take_head-token.new.state.fault in
+    let fault = fault_in i.session.failed stored in
+    rw c.pass.ensures (take_left_of i.setting i.input.now s s u x (shown_settled i.setting i.input.now s h.1) p refl fault c.args.self.now (e ∙ shown_as (parser_of i) fault h.0 r (none_failed i.session.failed i.state.fault stored (v.failed h.0))) (is_last_type (type_of x.token_data)) refl)

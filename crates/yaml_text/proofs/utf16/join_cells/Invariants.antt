@@ -1,6 +1,6 @@
 use Rattle.std.proofs.Common.{◌≡◌, ◌+◌, ◌*◌, ◌≤◌, ◌++◌, take, drop}
-use Rattle.yaml_text.specs.inside.Slots.{packed}
-use Rattle.yaml_text.proofs.utf16.join_slots.Given as goal
+use Rattle.yaml_text.specs.inside.Cells.{packed}
+use Rattle.yaml_text.proofs.utf16.join_cells.Given as goal
 
 abbrev pub invariant-loop-k : goal.invariant-loop-k
 invariant-loop-k l = record {

@@ -1,4 +1,4 @@
--- Slots that are joined make what was read of UTF-16 grow by the units that they spell.
+-- Cells that are joined make what was read of UTF-16 grow by the units that they spell.
 use Rattle.std.proofs.Common.{◌≡◌, ℕ, zero, suc, ◌+◌, ◌*◌, ◌<◌, ◌≤◌, Bool, true, List, [], ◌∷◌, ◌++◌, length, get_or, take, drop, refl, sym, ap, ap₂, ◌∙◌, subst, append_assoc, add-one, arith}
 use Rattle.std.proofs.lemmas.List.{append-nil, get_or-drop, get_or-take, drop-drop, take-take, take-set-le, take-append-le, length-take-le}
 use Rattle.std.proofs.Math.Seq.{drop-cons, take-append-add, take-append_seam, drop-append_seam}
@@ -6,12 +6,12 @@ use Rattle.std.proofs.Math.ListN.{set}
 use lib.Utf8.{encode}
 use Rattle.yaml_text.specs.Chars.{is_char}
 use Rattle.yaml_text.specs.Utf16.{unit_at}
-use Rattle.yaml_text.specs.inside.Slots.{count_of, packed, IsSlotOf, Spells}
+use Rattle.yaml_text.specs.inside.Cells.{count_of, packed, IsCellOf, Spells}
 use Rattle.yaml_text.specs.inside.Units.{Reads16}
 use Rattle.yaml_text.proofs.Characters.Utf16Spelling.{AreBytes}
 use Rattle.yaml_text.proofs.ManyBytes.UnitRuns.{unit_read, unit_after, written_three}
 
--- ---- a slot that is copied
+-- ---- a cell that is copied
 
 three_at : (l : List ℕ) (i : ℕ) → i + 3 ≤ length l → drop i l ≡ (get_or l i 0 ∷ get_or l (i + 1) 0 ∷ get_or l (i + 2) 0 ∷ []) ++ drop (i + 3) l
 three_at l i le =
@@ -37,7 +37,7 @@ copied l from to r n before room few =
     written_some l to r _ _ _ n (omega arith) few
     ∙ ap (λ (x : List ℕ). take to l ++ x) (sym (ap (take r) (three_at l from (omega arith)) ∙ take-append-le r three (drop (from + 3) l) few))
 
--- ---- slots that are joined, from a place on
+-- ---- cells that are joined, from a place on
 
 pub count_at : (old items : List ℕ) (start k : ℕ) → drop (start + 4 * k) items ≡ drop (start + 4 * k) old → get_or items (start + 4 * k + 3) 0 ≡ count_of (drop start old) k
 count_at old items start k after =
@@ -49,8 +49,8 @@ pub joined_more : (old items new : List ℕ) (start end k r : ℕ) → take end 
     → r ≡ count_of (drop start old) k → take (end + r) new ≡ take end items ++ take r (drop (start + 4 * k) items) → take (end + r) new ≡ take start old ++ packed (k + 1) (drop start old)
 joined_more old items new start end k r before after is copied-is =
     let s = drop start old in
-    let slot : drop (start + 4 * k) items ≡ drop (4 * k) s = after ∙ sym (drop-drop (4 * k) start old) in
-    copied-is ∙ ap₂ (λ (x y : List ℕ). x ++ take r y) before slot ∙ append_assoc (take start old) (packed k s) (take r (drop (4 * k) s))
+    let cell : drop (start + 4 * k) items ≡ drop (4 * k) s = after ∙ sym (drop-drop (4 * k) start old) in
+    copied-is ∙ ap₂ (λ (x y : List ℕ). x ++ take r y) before cell ∙ append_assoc (take start old) (packed k s) (take r (drop (4 * k) s))
     ∙ ap (λ i. take start old ++ (packed k s ++ take i (drop (4 * k) s))) is ∙ ap (λ i. take start old ++ packed i s) (sym (add-one k))
 
 pub after_more : (old items new : List ℕ) (start k : ℕ) → drop (start + 4 * k) items ≡ drop (start + 4 * k) old → drop (start + 4 * k + 4) new ≡ drop (start + 4 * k + 4) items
@@ -60,46 +60,46 @@ after_more old items new start k after same =
     let e : start + 4 * (k + 1) ≡ m + 4 = omega arith in
     ap (λ i. drop i new) e ∙ same ∙ sym (drop-drop 4 m items) ∙ ap (drop 4) after ∙ drop-drop 4 m old ∙ ap (λ i. drop i old) (sym e)
 
--- ---- what was read, with the units that slots spell
+-- ---- what was read, with the units that cells spell
 
-pub packed_read : (big : Bool) (bytes text slots : List ℕ) (at n : ℕ) → AreBytes bytes → Reads16 big bytes text at → at + 32 ≤ length bytes → n ≤ 16
-    → ((k : ℕ) → k < n → is_char (unit_at big bytes (at + 2 * k)) ≡ true) → ((k : ℕ) → k < 16 → IsSlotOf (unit_at big (drop at bytes) (2 * k)) slots k)
-    → Reads16 big bytes (text ++ packed n slots) (at + 2 * n)
-packed_read big bytes text slots at zero fits r room most chars spelled =
+pub packed_read : (big : Bool) (bytes text cells : List ℕ) (at n : ℕ) → AreBytes bytes → Reads16 big bytes text at → at + 32 ≤ length bytes → n ≤ 16
+    → ((k : ℕ) → k < n → is_char (unit_at big bytes (at + 2 * k)) ≡ true) → ((k : ℕ) → k < 16 → IsCellOf (unit_at big (drop at bytes) (2 * k)) cells k)
+    → Reads16 big bytes (text ++ packed n cells) (at + 2 * n)
+packed_read big bytes text cells at zero fits r room most chars spelled =
     let e : at + 2 * 0 ≡ at = omega arith in
     rw (append-nil text, e) r
-packed_read big bytes text slots at (suc n) fits r room most chars spelled =
-    let before = packed_read big bytes text slots at n fits r room (omega arith) (λ k lt. chars k (omega arith)) spelled in
+packed_read big bytes text cells at (suc n) fits r room most chars spelled =
+    let before = packed_read big bytes text cells at n fits r room (omega arith) (λ k lt. chars k (omega arith)) spelled in
     let place = at + 2 * n in
     let u = unit_at big bytes place in
-    let slot = spelled n (omega arith) in
-    let last = take (count_of slots n) (drop (4 * n) slots) in
-    let is : last ≡ encode u = slot.bytes ∙ ap encode (unit_after big bytes at (2 * n)) in
-    let more = unit_read big bytes (text ++ packed n slots) place u fits before (omega arith) refl (chars n (omega arith)) in
-    let text-is : (text ++ packed n slots) ++ encode u ≡ text ++ packed (suc n) slots =
-    ap (λ (x : List ℕ). (text ++ packed n slots) ++ x) (sym is) ∙ append_assoc text (packed n slots) last in
+    let cell = spelled n (omega arith) in
+    let last = take (count_of cells n) (drop (4 * n) cells) in
+    let is : last ≡ encode u = cell.bytes ∙ ap encode (unit_after big bytes at (2 * n)) in
+    let more = unit_read big bytes (text ++ packed n cells) place u fits before (omega arith) refl (chars n (omega arith)) in
+    let text-is : (text ++ packed n cells) ++ encode u ≡ text ++ packed (suc n) cells =
+    ap (λ (x : List ℕ). (text ++ packed n cells) ++ x) (sym is) ∙ append_assoc text (packed n cells) last in
     let place-is : place + 2 ≡ at + 2 * suc n = omega arith in
-    subst (λ (x : List ℕ). Reads16 big bytes x (at + 2 * suc n)) text-is (subst (λ p. Reads16 big bytes ((text ++ packed n slots) ++ encode u) p) place-is more)
+    subst (λ (x : List ℕ). Reads16 big bytes x (at + 2 * suc n)) text-is (subst (λ p. Reads16 big bytes ((text ++ packed n cells) ++ encode u) p) place-is more)
 
--- ---- a slot that spells a unit
+-- ---- a cell that spells a unit
 
-pub slot_of : (u a b c n : ℕ) (slots : List ℕ) (k : ℕ) → Spells u a b c n → take 4 (drop (4 * k) slots) ≡ a ∷ b ∷ c ∷ n ∷ [] → IsSlotOf u slots k
-slot_of u a b c n slots k s is =
-    let here = drop (4 * k) slots in
-    let last : count_of slots k ≡ n = sym (get_or-drop (4 * k) slots 3 0) ∙ sym (get_or-take 4 here 3 0 (omega arith)) ∙ ap (λ (l : List ℕ). get_or l 3 0) is in
-    let some : count_of slots k ≤ 3 = omega (arith, last, s.few) in
+pub cell_of : (u a b c n : ℕ) (cells : List ℕ) (k : ℕ) → Spells u a b c n → take 4 (drop (4 * k) cells) ≡ a ∷ b ∷ c ∷ n ∷ [] → IsCellOf u cells k
+cell_of u a b c n cells k s is =
+    let here = drop (4 * k) cells in
+    let last : count_of cells k ≡ n = sym (get_or-drop (4 * k) cells 3 0) ∙ sym (get_or-take 4 here 3 0 (omega arith)) ∙ ap (λ (l : List ℕ). get_or l 3 0) is in
+    let some : count_of cells k ≤ 3 = omega (arith, last, s.few) in
     record {
       few = some;
-      bytes = sym (take-take (count_of slots k) 4 here (omega arith)) ∙ ap₂ (λ i (l : List ℕ). take i l) last is ∙ take-append-le n (a ∷ b ∷ c ∷ []) (n ∷ []) s.few ∙ s.bytes;
+      bytes = sym (take-take (count_of cells k) 4 here (omega arith)) ∙ ap₂ (λ i (l : List ℕ). take i l) last is ∙ take-append-le n (a ∷ b ∷ c ∷ []) (n ∷ []) s.few ∙ s.bytes;
     }
 
--- ---- a Vec that slots were joined in
+-- ---- a Vec that cells were joined in
 
 pub kept : (L end : ℕ) (items z : List ℕ) → L ≡ length items → take end (take L (items ++ z)) ≡ take end items
 kept L end items z is = ap (λ k. take end (take k (items ++ z))) is ∙ ap (take end) (take-append_seam items z)
 
-pub joined_on : (text slots items : List ℕ) (before end : ℕ) → before ≡ length text → take end items ≡ take before (text ++ slots) ++ packed 16 (drop before (text ++ slots)) → take end items ≡ text ++ packed 16 slots
-joined_on text slots items before end is joined =
-    let front : take before (text ++ slots) ≡ text = ap (λ k. take k (text ++ slots)) is ∙ take-append_seam text slots in
-    let rest : drop before (text ++ slots) ≡ slots = ap (λ k. drop k (text ++ slots)) is ∙ drop-append_seam text slots in
+pub joined_on : (text cells items : List ℕ) (before end : ℕ) → before ≡ length text → take end items ≡ take before (text ++ cells) ++ packed 16 (drop before (text ++ cells)) → take end items ≡ text ++ packed 16 cells
+joined_on text cells items before end is joined =
+    let front : take before (text ++ cells) ≡ text = ap (λ k. take k (text ++ cells)) is ∙ take-append_seam text cells in
+    let rest : drop before (text ++ cells) ≡ cells = ap (λ k. drop k (text ++ cells)) is ∙ drop-append_seam text cells in
     joined ∙ ap₂ (λ (x y : List ℕ). x ++ packed 16 y) front rest

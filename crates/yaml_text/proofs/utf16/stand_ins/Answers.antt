@@ -1,5 +1,5 @@
 use Rattle.yaml_text.proofs.ManyBytes.UnitLanes.{AreHalves, length-halves, length-lanes, shown_lanes, char_at}
-use Rattle.yaml_text.proofs.utf16.shown.Goals as goal
+use Rattle.yaml_text.proofs.utf16.stand_ins.Goals as goal
 
 pub returns-clause-long : goal.returns-clause-long
 returns-clause-long c =

@@ -1,4 +1,4 @@
--- Four vectors that are put together lane by lane make slots of four bytes.
+-- Four vectors that are put together lane by lane make cells of four bytes.
 use Rattle.std.proofs.Common.{◌≡◌, ℕ, suc, ◌+◌, ◌*◌, ◌-◌, ◌<◌, ◌≤◌, inl, inr, eqb, List, [], ◌∷◌, ◌++◌, length, get_or, take, drop, map, refl, ap, ◌∙◌, arith, eqb→eq}
 use Rattle.std.proofs.lemmas.Bool.{cases_lt}
 use Rattle.std.proofs.lemmas.List.{get_or_append_left, get_or-append_right, get_or-map}
@@ -47,21 +47,21 @@ by_later_turns x y long = record {
       get_or-map (λ j. get_or (x ++ y) j 0) later_turns (2 * k + 1) 0 0 (omega arith) ∙ ap (λ j. get_or (x ++ y) j 0) place ∙ right_at x y (8 + k) long;
 }
 
--- ---- four slots in a vector
+-- ---- four cells in a vector
 
 -- The four bytes from a place on are lane k of the four vectors.
-pub record HasSlot (a b c d l : List ℕ) (place k : ℕ) : Type 0 where
+pub record HasCell (a b c d l : List ℕ) (place k : ℕ) : Type 0 where
   pub first : get_or l place 0 ≡ get_or a k 0
   pub second : get_or l (place + 1) 0 ≡ get_or b k 0
   pub third : get_or l (place + 2) 0 ≡ get_or c k 0
   pub fourth : get_or l (place + 3) 0 ≡ get_or d k 0
 
 abbrev pub HasFour : List ℕ → List ℕ → List ℕ → List ℕ → List ℕ → ℕ → Type 0
-HasFour a b c d v from = (k : ℕ) → k < 4 → HasSlot a b c d v (4 * k) (from + k)
+HasFour a b c d v from = (k : ℕ) → k < 4 → HasCell a b c d v (4 * k) (from + k)
 
 -- p and q are 0 or 8: which half of the lanes is taken, last and first.
-pub four_slots : (p q s : ℕ) (a b c d even odd v : List ℕ) → p ≡ 2 * s → s ≤ 4 → ByTurns p even odd v → ByTurns q a c even → ByTurns q b d odd → HasFour a b c d v (q + s)
-four_slots p q s a b c d even odd v is few w e o = λ k lt.
+pub four_cells : (p q s : ℕ) (a b c d even odd v : List ℕ) → p ≡ 2 * s → s ≤ 4 → ByTurns p even odd v → ByTurns q a c even → ByTurns q b d odd → HasFour a b c d v (q + s)
+four_cells p q s a b c d even odd v is few w e o = λ k lt.
     let i = s + k in
     let place : q + i ≡ q + s + k = omega arith in
     let at0 : 4 * k ≡ 2 * (2 * k) = omega arith in
@@ -77,14 +77,14 @@ four_slots p q s a b c d even odd v is few w e o = λ k lt.
       fourth = ap (λ j. get_or v j 0) at3 ∙ w.odd (2 * k + 1) (omega arith) ∙ ap (λ j. get_or odd j 0) m1 ∙ o.odd i (omega arith) ∙ ap (λ j. get_or d j 0) place;
     }
 
--- ---- slots that are written one vector after the other
+-- ---- cells that are written one vector after the other
 
-abbrev pub HasSlots : List ℕ → List ℕ → List ℕ → List ℕ → List ℕ → ℕ → Type 0
-HasSlots a b c d l n = (k : ℕ) → k < n → HasSlot a b c d l (4 * k) k
+abbrev pub HasCells : List ℕ → List ℕ → List ℕ → List ℕ → List ℕ → ℕ → Type 0
+HasCells a b c d l n = (k : ℕ) → k < n → HasCell a b c d l (4 * k) k
 
-pub more_slots : (a b c d l m v : List ℕ) (from at : ℕ) → at ≡ 4 * from → HasSlots a b c d l from → HasFour a b c d v from
-    → ((k : ℕ) → k < 16 → get_or m (at + k) 0 ≡ get_or v k 0) → ((k : ℕ) → k < at → get_or m k 0 ≡ get_or l k 0) → HasSlots a b c d m (from + 4)
-more_slots a b c d l m v from at is old new laid before = λ k lt.
+pub more_cells : (a b c d l m v : List ℕ) (from at : ℕ) → at ≡ 4 * from → HasCells a b c d l from → HasFour a b c d v from
+    → ((k : ℕ) → k < 16 → get_or m (at + k) 0 ≡ get_or v k 0) → ((k : ℕ) → k < at → get_or m k 0 ≡ get_or l k 0) → HasCells a b c d m (from + 4)
+more_cells a b c d l m v from at is old new laid before = λ k lt.
     elim (cases_lt k from) [
       | inl x ↦
           let s = old k x in
@@ -122,5 +122,5 @@ four_at l i le =
     ap (take 4) one ∙ ap (λ (t : List ℕ). get_or l i 0 ∷ take 3 t) two ∙ ap (λ (t : List ℕ). get_or l i 0 ∷ get_or l (i + 1) 0 ∷ take 2 t) three
     ∙ ap (λ (t : List ℕ). get_or l i 0 ∷ get_or l (i + 1) 0 ∷ get_or l (i + 2) 0 ∷ take 1 t) four
 
-pub slot_taken : (a b c d l : List ℕ) (k : ℕ) → 4 * k + 4 ≤ length l → HasSlot a b c d l (4 * k) k → take 4 (drop (4 * k) l) ≡ get_or a k 0 ∷ get_or b k 0 ∷ get_or c k 0 ∷ get_or d k 0 ∷ []
-slot_taken a b c d l k room s = let e = s.first in let f = s.second in let g = s.third in let h = s.fourth in rw (← e, ← f, ← g, ← h) (four_at l (4 * k) room)
+pub cell_taken : (a b c d l : List ℕ) (k : ℕ) → 4 * k + 4 ≤ length l → HasCell a b c d l (4 * k) k → take 4 (drop (4 * k) l) ≡ get_or a k 0 ∷ get_or b k 0 ∷ get_or c k 0 ∷ get_or d k 0 ∷ []
+cell_taken a b c d l k room s = let e = s.first in let f = s.second in let g = s.third in let h = s.fourth in rw (← e, ← f, ← g, ← h) (four_at l (4 * k) room)
