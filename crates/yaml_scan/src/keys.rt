@@ -257,7 +257,7 @@ impl slots_t {
     #[inline(always)]
     pub(crate) fn move_on(&mut self, step: step_t, limit: u64, mark: yaml_mark_t)
         requires flow { step.in_flow ≡ nat_lt 0 (vec_len self.old.outer) }
-        requires empty { self.old.not_simple_keys ≡ empty_slots self.old.outer.items }
+        requires empty { self.old.empty_below ≡ empty_slots self.old.outer.items }
         requires nested { AreNested self.old.outer.items }
         requires room { is_flow_start step.kind ≡ true → vec_len self.old.outer < vec_capacity self.old.outer }
         ensures outer { self.new.outer.items
@@ -266,7 +266,7 @@ impl slots_t {
         ensures top { self.new.top
             ≡ nested_top step.kind (map (still_held limit mark) self.old.outer.items)
             (still_held limit mark self.old.top) }
-        ensures empty { self.new.not_simple_keys ≡ empty_slots self.new.outer.items }
+        ensures empty { self.new.empty_below ≡ empty_slots self.new.outer.items }
         ensures awaited { self.new.awaited ≡ held_step (lowest (self.new.outer.items ++ self.new.top ∷ [])) }
     {
         give_up(&mut self.top, limit, mark);
@@ -274,7 +274,7 @@ impl slots_t {
             self.awaited = held_step(self.top);
             return;
         }
-        let below = give_up_stale(&mut self.outer, self.not_simple_keys, limit, mark);
+        let below = give_up_stale(&mut self.outer, self.empty_below, limit, mark);
         let empty = if nests(step.kind) {
             self.nest(step.kind);
             count_empty(&self.outer, below)
@@ -282,6 +282,6 @@ impl slots_t {
             below
         };
         self.awaited = held_step(lowest(&self.outer, empty, self.top));
-        self.not_simple_keys = empty;
+        self.empty_below = empty;
     }
 }

@@ -60,7 +60,7 @@ pub(crate) fn token_of(start: yaml_mark_t, lexeme: yaml_lexeme_t) -> yaml_token_
 #[inline(always)]
 fn keep_candidates(slots: &mut slots_t, step: step_t, limit: u64, mark: yaml_mark_t)
     requires flow { step.in_flow ≡ nat_lt 0 (vec_len slots.old.outer) }
-    requires empty { slots.old.not_simple_keys ≡ empty_slots slots.old.outer.items }
+    requires empty { slots.old.empty_below ≡ empty_slots slots.old.outer.items }
     requires nested { AreNested slots.old.outer.items }
     requires room { is_flow_start step.kind ≡ true → vec_len slots.old.outer < vec_capacity slots.old.outer }
     ensures outer { slots.new.outer.items
@@ -69,7 +69,7 @@ fn keep_candidates(slots: &mut slots_t, step: step_t, limit: u64, mark: yaml_mar
     ensures top { slots.new.top
         ≡ nested_top step.kind (map (still_held limit mark) slots.old.outer.items)
         (still_held limit mark (slot_after step.kind step.allowed step.new slots.old.top)) }
-    ensures empty { slots.new.not_simple_keys ≡ empty_slots slots.new.outer.items }
+    ensures empty { slots.new.empty_below ≡ empty_slots slots.new.outer.items }
     ensures awaited { slots.new.awaited ≡ held_step (lowest (slots.new.outer.items ++ slots.new.top ∷ [])) }
 {
     change_slot(&mut slots.top, step.kind, step.allowed, step.new);

@@ -95,7 +95,7 @@ pub(crate) fn new_state(alloc: Global, limit: u64) -> state_t
         limit,
         slots: slots_t {
             outer: Vec::new(alloc),
-            not_simple_keys: 0,
+            empty_below: 0,
             top: None,
             awaited: 0,
         },

@@ -150,7 +150,7 @@ impl state_t {
 fn no_slots(alloc: Global) -> slots_t {
     slots_t {
         outer: Vec::new(alloc),
-        not_simple_keys: 0,
+        empty_below: 0,
         top: None,
         awaited: 0,
     }

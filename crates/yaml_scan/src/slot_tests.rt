@@ -14,7 +14,7 @@ fn counter_rises_past_a_stale_slot(rt: HostRuntime) -> Result<(), Fail> {
         }
         Err(_) => return Err("a fault".into()),
     }
-    assert_eq!(rt; parser.state.slots.not_simple_keys, 0);
+    assert_eq!(rt; parser.state.slots.empty_below, 0);
     match yaml_parser_peek(&mut parser) {
         Ok(token) => {
             assert_eq!(rt;
@@ -24,6 +24,6 @@ fn counter_rises_past_a_stale_slot(rt: HostRuntime) -> Result<(), Fail> {
         }
         Err(_) => return Err("a fault".into()),
     }
-    assert_eq!(rt; parser.state.slots.not_simple_keys, 1);
+    assert_eq!(rt; parser.state.slots.empty_below, 1);
     Ok(())
 }
