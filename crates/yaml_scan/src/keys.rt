@@ -19,7 +19,7 @@ use yaml_text::yaml_mark_t;
 pub(crate) const KEY_LIMIT: u32 = 1024;
 
 impl candidate_t {
-    /// Whether it is live at a mark: on its line, and at most `limit` bytes from its start.
+    /// Whether a candidate is live at a mark: on its line, and at most `limit` bytes from its start.
     #[inline(always)]
     pub(crate) fn is_live(self, limit: u64, mark: yaml_mark_t) -> bool
         ensures { result ≡ is_live limit mark self }
