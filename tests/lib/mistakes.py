@@ -157,8 +157,9 @@ def files_with_choices(texts, edits):
     for (path, start, end), wrong in sorted(chosen.items(), reverse=True):
         crate = "crate" if path.startswith(f"crates/{LOWEST}/") else LOWEST
         text = made.get(path, texts[path])
-        choices = "".join(f" if {crate}::has_mistake({number}) {{{body}\n}} else" for number, body in wrong)
-        made[path] = f"{text[:start]}{choices} {{{text[start:end]}\n}}{text[end:]}"
+        close = re.match(r"\n *", text[end:])[0] + "    }"
+        choices = "".join(f" if {crate}::has_mistake({number}) {{{body}{close} else" for number, body in wrong)
+        made[path] = f"{text[:start]}{choices} {{{text[start:end]}{close}{text[end:]}"
     return made
 
 
