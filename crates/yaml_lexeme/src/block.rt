@@ -1,14 +1,16 @@
 //! Literal and folded scalars.
 ghost use Rattle.std.specs.Prelude.{◌≡◌, ◌+◌, ◌++◌, ◌<◌, ◌^◌, OnOk, IfOk, IfSome, [], length, replicate};
-ghost use Rattle.std.specs.Prelude.{true, false, encode_utf8};
+ghost use Rattle.std.specs.Prelude.{ℕ, ◌≤◌, ◌∷◌, List, Some, take, true, false, encode_utf8};
 ghost use Rattle.yaml_text.specs.Chars.{utf8};
 ghost use Rattle.yaml_lexeme.specs.Block as spec;
 ghost use Rattle.yaml_lexeme.specs.inside.BlockAhead as ahead;
 ghost use Rattle.yaml_lexeme.specs.LexemeOf.{scalar_of};
 ghost use Rattle.yaml_lexeme.specs.inside.Gives.{Gives, Moves};
-ghost use Rattle.yaml_lexeme.specs.Classes.{is_in_line};
+ghost use Rattle.yaml_lexeme.specs.Classes.{is_in_line, line_feed};
+ghost use Rattle.yaml_lexeme.specs.Fold.{or_space};
 ghost use Rattle.yaml_lexeme.specs.Place.{skip, break_len, run, after_run};
 ghost use Rattle.yaml_lexeme.specs.inside.Tails.{breaks_in, TakesBlanks, TakesLine, between_tail, chomped_tail};
+ghost use Rattle.yaml_lexeme.specs.inside.Tails.{feed_if, IsFed};
 
 use crate::classes::{is_blank, is_break};
 use crate::fold::{emptied, push_char, written};
@@ -22,6 +24,9 @@ use yaml_text::yaml_mark_t;
 
 /// How many bytes a block scalar first gets room for.
 const ROOM: usize = 256;
+
+/// How many bytes are copied as one for a short text line and its break.
+const LINE: usize = 64;
 
 /// What is kept after the last text line.
 #[derive(Clone, Copy)]
@@ -52,6 +57,8 @@ pub(crate) struct empties_t {
 pub(crate) struct tail_t {
     /// Its break, as it is written.
     pub lead: Option<char>,
+    /// Whether that is a line feed, and was appended with the text.
+    pub fed: bool,
     /// The breaks of the empty lines after it.
     pub empties: empties_t,
     /// Whether it begins with a blank.
@@ -261,21 +268,46 @@ fn take_break(cursor: &mut cursor_t) -> Option<char>
     if n == 0 { None } else { Some(written(c)) }
 }
 
-/// Takes what is left of a line and its break, and appends the text to `out`. Returns the break as it is written.
+/// Appends the first `n` bytes to `out`, and a line feed if it has room. Returns whether it has. If the bytes are few
+/// and there is room for more, a line of bytes is copied as one, and what is too much of it is cut off.
 #[inline(always)]
-fn take_text(cursor: &mut cursor_t, out: &mut Vec<u8>) -> Result<Option<char>, AllocError>
-    ensures text { OnOk result (out.new.items ≡ out.old.items ++ utf8 (run is_in_line cursor.old)) }
-    ensures lead { IfOk result (λ c. c ≡ spec.break_at (after_run is_in_line cursor.old)) }
+fn push_fed(out: &mut Vec<u8>, bytes: &[u8], n: usize) -> Result<bool, AllocError>
+    requires { n ≤ length bytes.now }
+    ensures { IfOk result (λ fed. out.new.items ≡ (out.old.items ++ take n bytes.now) ++ feed_if fed) }
+{
+    let old = out.len();
+    if n < LINE && bytes.len() >= LINE && out.capacity() - old >= LINE {
+        out.extend_from_slice(&bytes[..LINE])?;
+        out[old + n] = b'\n';
+        out.truncate(old + n + 1);
+        return Ok(true);
+    }
+    out.extend_from_slice(&bytes[..n])?;
+    if out.len() == out.capacity() {
+        return Ok(false);
+    }
+    out.push(b'\n')?;
+    Ok(true)
+}
+
+/// Takes what is left of a line and its break, and appends the text to `out`. A line feed is appended with it if both
+/// have room. Returns whether it was, and the break as it is written.
+#[inline(always)]
+fn take_text(cursor: &mut cursor_t, out: &mut Vec<u8>) -> Result<(bool, Option<char>), AllocError>
+    ensures text { IfOk result
+        (λ t. out.new.items ≡ (out.old.items ++ utf8 (run is_in_line cursor.old)) ++ feed_if t.0) }
+    ensures fed { IfOk result (λ t. t.0 ≡ true → t.1 ≡ Some line_feed) }
+    ensures lead { IfOk result (λ t. t.1 ≡ spec.break_at (after_run is_in_line cursor.old)) }
     ensures end { OnOk result (cursor.new ≡ spec.next_line cursor.old) }
 {
     let left = cursor.left();
     if let Some(n) = cursor.take_fed_line() {
-        out.extend_from_slice(&left[..n])?;
-        return Ok(Some('\n'));
+        let fed = push_fed(out, left, n)?;
+        return Ok((fed, Some('\n')));
     }
     let text = cursor.rare_run(class_t::IN_LINE);
     out.extend_from_slice(text)?;
-    Ok(take_break(cursor))
+    Ok((false, take_break(cursor)))
 }
 
 /// Takes a text line after its indentation, appends its text to `out`, and sets what is kept of it.
@@ -289,7 +321,9 @@ fn take_line(
     ensures { TakesLine result out.old.items out.new.items tail.new cursor.new (ahead.line_at indent cursor.old) }
 {
     tail.indented = is_at!(cursor, is_blank, 0);
-    tail.lead = take_text(cursor, out)?;
+    let (fed, lead) = take_text(cursor, out)?;
+    tail.fed = fed;
+    tail.lead = lead;
     clear_empties(&mut tail.empties);
     take_blank_lines(cursor, Some(indent), &mut tail.empties, &mut tail.end)?;
     Ok(())
@@ -303,6 +337,19 @@ fn push_lead(out: &mut Vec<u8>, lead: Option<char>) -> Result<(), AllocError>
         push_char(out, c)?;
     }
     Ok(())
+}
+
+/// Appends the break of a text line to `out`, if it was not appended with the text.
+#[inline(always)]
+fn push_unfed(out: &mut Vec<u8>, tail: &tail_t) -> Result<(), AllocError>
+    requires { IsFed tail.now out.old.items }
+    ensures { OnOk result ((x : List ℕ) → out.old.items ≡ x ++ feed_if tail.now.fed →
+        out.new.items ≡ x ++ utf8 (spec.or_none tail.now.lead)) }
+{
+    if tail.fed {
+        return Ok(());
+    }
+    push_lead(out, tail.lead)
 }
 
 /// Appends so many line feeds.
@@ -331,14 +378,10 @@ fn push_empties(out: &mut Vec<u8>, empties: &empties_t) -> Result<(), AllocError
     Ok(())
 }
 
-/// Appends to `out` what comes between a text line and the next, which begins with a blank if the flag is set.
+/// Appends to `out` what comes between a text line whose break is not in it and the next, which begins with a blank if
+/// the flag is set.
 #[inline(always)]
-fn push_between(
-    out: &mut Vec<u8>,
-    folded: bool,
-    tail: &tail_t,
-    next: bool,
-) -> Result<(), AllocError>
+fn push_after(out: &mut Vec<u8>, folded: bool, tail: &tail_t, next: bool) -> Result<(), AllocError>
     ensures { OnOk result (out.new.items ≡ out.old.items ++ between_tail folded tail.now next) }
 {
     if folded && tail.lead == Some('\n') && !(tail.indented || next) {
@@ -354,16 +397,59 @@ fn push_between(
     Ok(())
 }
 
-/// Appends to `out` what comes after the last text line.
+/// Folds the line feed at the end of `out`: it becomes a space, or else the breaks of the empty lines after it.
+#[inline(always)]
+fn fold_feed(out: &mut Vec<u8>, empties: &empties_t) -> Result<(), AllocError>
+    requires { 0 < length out.old.items }
+    ensures { OnOk result ((x : List ℕ) → out.old.items ≡ x ++ (line_feed ∷ []) →
+        out.new.items ≡ x ++ or_space (breaks_in empties.now)) }
+{
+    let last = out.len() - 1;
+    if no_empties(empties) {
+        out[last] = b' ';
+        return Ok(());
+    }
+    out.truncate(last);
+    push_empties(out, empties)
+}
+
+/// Makes of the end of `out` what comes between a text line and the next, which begins with a blank if the flag is set.
+#[inline(always)]
+fn push_between(
+    out: &mut Vec<u8>,
+    folded: bool,
+    tail: &tail_t,
+    next: bool,
+) -> Result<(), AllocError>
+    requires { IsFed tail.now out.old.items }
+    ensures { OnOk result ((x : List ℕ) → out.old.items ≡ x ++ feed_if tail.now.fed →
+        out.new.items ≡ x ++ between_tail folded tail.now next) }
+{
+    if !tail.fed {
+        return push_after(out, folded, tail, next);
+    }
+    if folded && !(tail.indented || next) {
+        return fold_feed(out, &tail.empties);
+    }
+    push_empties(out, &tail.empties)
+}
+
+/// Makes of the end of `out` what comes after the last text line.
 #[inline(always)]
 fn push_chomped(out: &mut Vec<u8>, chomp: chomp_t, tail: &tail_t) -> Result<(), AllocError>
-    ensures { OnOk result (out.new.items ≡ out.old.items ++ chomped_tail chomp tail.now) }
+    requires { IsFed tail.now out.old.items }
+    ensures { OnOk result ((x : List ℕ) → out.old.items ≡ x ++ feed_if tail.now.fed →
+        out.new.items ≡ x ++ chomped_tail chomp tail.now) }
 {
     match chomp {
-        chomp_t::STRIP => {}
-        chomp_t::CLIP => push_lead(out, tail.lead)?,
+        chomp_t::STRIP => {
+            if tail.fed {
+                out.truncate(out.len() - 1);
+            }
+        }
+        chomp_t::CLIP => push_unfed(out, tail)?,
         chomp_t::KEEP => {
-            push_lead(out, tail.lead)?;
+            push_unfed(out, tail)?;
             push_empties(out, &tail.empties)?;
         }
     }
@@ -439,6 +525,7 @@ fn take_lines(
     let set = set_indent(level, header.digit);
     let mut tail = tail_t {
         lead: None,
+        fed: false,
         empties: empties_t {
             feeds: 0,
             others: Vec::new(*room.allocator()),

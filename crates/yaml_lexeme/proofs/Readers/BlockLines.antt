@@ -1,5 +1,5 @@
 -- Literal and folded scalars are read a space and a line at a time.
-use Rattle.std.proofs.Common.{◌≡◌, ℕ, ◌+◌, ◌<◌, ◌≤◌, max, Bool, true, false, cond, not, ◌&&◌, ◌||◌, nat_lt, if◌then◌else◌, List, [], ◌∷◌, ◌++◌, length, replicate, slice_index, map, Option, Some, None, Result, Ok, Err, refl, sym, ap, subst, ◌∙◌, arith, append_assoc, lt-ltb, length-append}
+use Rattle.std.proofs.Common.{◌≡◌, ℕ, ◌+◌, ◌<◌, ◌≤◌, max, Bool, true, false, cond, not, ◌&&◌, ◌||◌, nat_lt, if◌then◌else◌, List, [], ◌∷◌, ◌++◌, length, replicate, slice_index, map, Option, Some, None, Result, Ok, Err, refl, sym, ap, ◌∙◌, arith, append_assoc, lt-ltb, length-append}
 use Rattle.std.proofs.lemmas.Str.{encode_ascii, encodes-append}
 use Rattle.std.proofs.lemmas.Bool.Decides.{nat_tests}
 use Rattle.std.proofs.lemmas.List.{append-nil, replicate_more}
@@ -27,7 +27,7 @@ use Rattle.yaml_lexeme.specs.Fold.{written, or_space}
 use Rattle.yaml_lexeme.specs.inside.Gives.{Refuses}
 use Rattle.yaml_lexeme.specs.Place.{Place, first, skip, run, after_run, break_len}
 use Rattle.yaml_lexeme.specs.Reading.{Offence, Found, Read, found, Part, part, refuse, over, many, ◌>>=◌}
-use Rattle.yaml_lexeme.specs.inside.Tails.{breaks_in, TakesBlanks, TakesLine, Keeps, between_tail, chomped_tail}
+use Rattle.yaml_lexeme.specs.inside.Tails.{breaks_in, TakesBlanks, TakesLine, Keeps, feed_if, IsFed, between_tail, chomped_tail}
 use Rattle.yaml_text.specs.Chars.{utf8}
 use Rattle.yaml_text.specs.Classes.{is_blank}
 use Rattle.yaml_lexeme.specs.declared.block.tail_t.{tail_t}
@@ -204,12 +204,12 @@ first_blank : (b : Bool) (p : Place) → is_in_line (first p) ≡ b → is_blank
 first_blank true p h = ap (λ (cs : List ℕ). is_blank (slice_index cs 0)) (run_more is_in_line p h refl)
 first_blank false p h = ap (λ (cs : List ℕ). is_blank (slice_index cs 0)) (run_none is_in_line p h) ∙ sym (no_blank (first p) h)
 
-pub line_taken : (indent : ℕ) (p q : Place) (old new : List ℕ) (tail : tail_t) (column : ℕ) → tail.lead ≡ break_at (after_run is_in_line p) → tail.indented ≡ is_blank (first p) → new ≡ old ++ utf8 (run is_in_line p)
+pub line_taken : (indent : ℕ) (p q : Place) (old new : List ℕ) (tail : tail_t) (column : ℕ) → tail.lead ≡ break_at (after_run is_in_line p) → (tail.fed ≡ true → tail.lead ≡ Some 0x0A) → tail.indented ≡ is_blank (first p) → new ≡ (old ++ utf8 (run is_in_line p)) ++ feed_if tail.fed
     → TakesBlanks (Ok column) [] (breaks_in tail.empties) tail.end q (blank_lines (Some indent) (line_end p)) → TakesLine (Ok tt) old new tail q (line_at indent p)
-line_taken indent p q old new tail column l i v h =
+line_taken indent p q old new tail column l d i v h =
     let (b, read, wide, breaks, end) = blanks_from column tail.end [] (breaks_in tail.empties) q (blank_lines (Some indent) (line_end p)) h in
     let whole : line_at indent p ≡ found (record { text = run is_in_line p; break = break_at (after_run is_in_line p); empties = b.breaks; end = b.end }) q = line_is indent p ∙ ap (after_text p) read in
-    rw whole (record { lead = l; empties = breaks; indented = i ∙ sym (first_blank (is_in_line (first p)) p refl); end = end }, v, refl)
+    rw whole (record { lead = l; fed = d; empties = breaks; indented = i ∙ sym (first_blank (is_in_line (first p)) p refl); end = end }, v, refl)
 
 -- the bytes and the last line so far
 abbrev pub Lines : Type 0
@@ -283,7 +283,7 @@ abbrev text_of : Read Line → List ℕ
 text_of (Ok l) = l.value.text
 text_of (Err e) = []
 
-line_from : (tail : tail_t) (old new : List ℕ) (q : Place) (read : Read Line) → TakesLine (Ok tt) old new tail q read → (l : Line) × (read ≡ found l q) × Keeps tail l × (new ≡ old ++ utf8 l.text)
+line_from : (tail : tail_t) (old new : List ℕ) (q : Place) (read : Read Line) → TakesLine (Ok tt) old new tail q read → (l : Line) × (read ≡ found l q) × Keeps tail l × (new ≡ (old ++ utf8 l.text) ++ feed_if tail.fed)
 line_from tail old new q (Ok f) h = (f.value, rw h.2 refl, h.0, h.1)
 line_from tail old new q (Err e) h = absurd h
 
@@ -291,33 +291,42 @@ read_blank : (indent : ℕ) (p q : Place) (l : Line) (r : Read Blanks) → after
 read_blank indent p q l (Ok b) e = let same : run is_in_line p ≡ l.text = ap text_of e in ap (λ (cs : List ℕ). is_blank (slice_index cs 0)) (sym same) ∙ first_blank (is_in_line (first p)) p refl
 read_blank indent p q l (Err o) e = absurd cc
 
--- Lines are being read: what that makes is what the scalar is.
+-- Lines are being read: what that makes is what the scalar is. A line feed may follow what was taken.
 pub record Blocking (folded : Bool) (level : Option ℕ) (start : Place) (chomp : chomp_t) (indent : ℕ) (p : Place) (out : List ℕ) (tail : tail_t) : Type 0 where
   pub last : Line
   pub keeps : Keeps tail last
-  pub so_far : finish chomp (gather (add_line folded) (out, last) (many (text_line indent) p)) ≡ block folded level start
+  pub taken : List ℕ
+  pub put : out ≡ taken ++ feed_if tail.fed
+  pub so_far : finish chomp (gather (add_line folded) (taken, last) (many (text_line indent) p)) ≡ block folded level start
+
+pub blocks_fed : (folded : Bool) (level : Option ℕ) (start : Place) (chomp : chomp_t) (indent : ℕ) (p : Place) (out : List ℕ) (tail : tail_t) → Blocking folded level start chomp indent p out tail → IsFed tail out
+blocks_fed folded level start chomp indent p out tail b =
+    record {
+      lead = b.keeps.fed;
+      some = λ h. let one : length (feed_if tail.fed) ≡ 1 = ap (λ (f : Bool). length (feed_if f)) h in omega (arith, one, ap length b.put, length-append b.taken (feed_if tail.fed));
+    }
 
 pub blocks_more : (folded : Bool) (level : Option ℕ) (start : Place) (chomp : chomp_t) (indent : ℕ) (p q : Place) (out mid new : List ℕ) (tail next : tail_t) (blank : Bool)
-    → is_text indent p ≡ true → Blocking folded level start chomp indent p out tail → blank ≡ is_blank (first p) → mid ≡ out ++ between_tail folded tail blank → TakesLine (Ok tt) mid new next q (line_at indent p)
+    → is_text indent p ≡ true → Blocking folded level start chomp indent p out tail → blank ≡ is_blank (first p) → ((x : List ℕ) → out ≡ x ++ feed_if tail.fed → mid ≡ x ++ between_tail folded tail blank) → TakesLine (Ok tt) mid new next q (line_at indent p)
     → (length q.rest < length p.rest) × Blocking folded level start chomp indent q new next
 blocks_more folded level start chomp indent p q out mid new tail next blank h b c m t =
     let (l, read, keeps, value) = line_from next mid new q (line_at indent p) t in
     let more : is_more_indented l ≡ is_blank (first p) = read_blank indent p q l (blank_lines (Some indent) (line_end p)) (sym (line_is indent p) ∙ read) in
     let f : Found Line = record { value = l; end = q } in
     let one : text_line indent p ≡ Ok (Some f) = text_is indent p h ∙ ap (λ (r : Read Line). r >>= λ l. part l.value l.end) read in
-    let s : Lines = (out, b.last) in
+    let s : Lines = (b.taken, b.last) in
     let g = gathers_more (add_line folded) (text_line indent) (text_shortens indent) p s f (gather (add_line folded) s (many (text_line indent) p)) one refl in
-    let between' : mid ≡ out ++ utf8 (between folded b.last l) = m ∙ ap (λ (xs : List ℕ). out ++ xs) (between_bytes folded tail b.last l blank b.keeps (c ∙ sym more)) in
-    let value' : new ≡ out ++ utf8 (between folded b.last l) ++ utf8 l.text = value ∙ ap (λ (xs : List ℕ). xs ++ utf8 l.text) between' in
-    (g.0, record { last = l; keeps = keeps; so_far = subst (λ (xs : List ℕ). finish chomp (gather (add_line folded) (xs, l) (many (text_line indent) q)) ≡ block folded level start) (sym value') (ap (finish chomp) g.1 ∙ b.so_far) })
+    let between' : mid ≡ b.taken ++ utf8 (between folded b.last l) = m b.taken b.put ∙ ap (λ (xs : List ℕ). b.taken ++ xs) (between_bytes folded tail b.last l blank b.keeps (c ∙ sym more)) in
+    let value' : new ≡ (b.taken ++ utf8 (between folded b.last l) ++ utf8 l.text) ++ feed_if next.fed = value ∙ ap (λ (xs : List ℕ). (xs ++ utf8 l.text) ++ feed_if next.fed) between' in
+    (g.0, record { last = l; keeps = keeps; taken = b.taken ++ utf8 (between folded b.last l) ++ utf8 l.text; put = value'; so_far = ap (finish chomp) g.1 ∙ b.so_far })
 
 pub blocks_all : (folded : Bool) (level : Option ℕ) (start : Place) (chomp : chomp_t) (indent : ℕ) (p : Place) (out new : List ℕ) (tail : tail_t)
-    → is_text indent p ≡ false → Blocking folded level start chomp indent p out tail → new ≡ out ++ chomped_tail chomp tail
+    → is_text indent p ≡ false → Blocking folded level start chomp indent p out tail → ((x : List ℕ) → out ≡ x ++ feed_if tail.fed → new ≡ x ++ chomped_tail chomp tail)
     → block folded level start ≡ found (record { value = new; end = tail.end; passed_break = false }) p
 blocks_all folded level start chomp indent p out new tail h b e =
-    let s : Lines = (out, b.last) in
+    let s : Lines = (b.taken, b.last) in
     let all = gathers_all (add_line folded) (text_line indent) (text_shortens indent) p s (gather (add_line folded) s (many (text_line indent) p)) (text_none indent p h) refl in
-    let value : new ≡ out ++ utf8 (chomped chomp b.last) = e ∙ ap (λ (xs : List ℕ). out ++ xs) (chomped_bytes chomp tail b.last b.keeps) in
+    let value : new ≡ b.taken ++ utf8 (chomped chomp b.last) = e b.taken b.put ∙ ap (λ (xs : List ℕ). b.taken ++ xs) (chomped_bytes chomp tail b.last b.keeps) in
     rw (value, b.keeps.end) (sym b.so_far ∙ ap (finish chomp) all)
 
 -- what a block scalar is after its header and leading empty lines
@@ -363,8 +372,8 @@ leading_refused (errors.OFFENCE problem) folded level p q header a b e f h =
 
 pub blocks_begin : (folded : Bool) (level : Option ℕ) (p : Place) (header : header_t) (a b q : Place) (column indent : ℕ) (tail : tail_t) → header_at (skip 1 p) ≡ found header a → after_line a ≡ Ok b
     → TakesBlanks (Ok column) [] (breaks_in tail.empties) tail.end q (blank_lines (set_indent level header.digit) b)
-    → tail.lead ≡ None → tail.indented ≡ false → indent ≡ block_indent level (set_indent level header.digit) column q.mark.column → Blocking folded level p header.chomp indent q [] tail
-blocks_begin folded level p header a b q column indent tail e f t l i n =
+    → tail.lead ≡ None → tail.fed ≡ false → tail.indented ≡ false → indent ≡ block_indent level (set_indent level header.digit) column q.mark.column → Blocking folded level p header.chomp indent q [] tail
+blocks_begin folded level p header a b q column indent tail e f t l d i n =
     let (leading, read, wide, breaks, end) = blanks_from column tail.end [] (breaks_in tail.empties) q (blank_lines (set_indent level header.digit) b) t in
     let here : block folded level p ≡ tail_of folded header.chomp leading (many (text_line (block_indent level (set_indent level header.digit) leading.column q.mark.column)) q) =
     block_is folded level p ∙ ap (after_header folded level) e ∙ ap (after_start folded level header) f ∙ ap (after_leading folded level header) read in
@@ -372,7 +381,9 @@ blocks_begin folded level p header a b q column indent tail e f t l i n =
     let zero = before_lines leading.breaks leading.end in
     record {
       last = zero;
-      keeps = record { lead = l; empties = breaks; indented = i; end = end };
+      keeps = record { lead = l; fed = λ h. absurd cc; empties = breaks; indented = i; end = end };
+      taken = [];
+      put = sym (ap feed_if d);
       so_far = rw same (tail_is folded header.chomp leading (many (text_line (block_indent level (set_indent level header.digit) leading.column q.mark.column)) q) ∙ sym here);
     }
 
@@ -381,7 +392,7 @@ pub blocks_refused : (error : yaml_refusal_t) (folded : Bool) (level : Option �
     → is_text indent p ≡ true → Blocking folded level start chomp indent p out tail → Refuses error q (line_at indent p) → Refuses error q (block folded level start)
 blocks_refused errors.MEMORY folded level start chomp indent p q out tail h b e = tt
 blocks_refused (errors.OFFENCE problem) folded level start chomp indent p q out tail h b e =
-    let s : Lines = (out, b.last) in
+    let s : Lines = (b.taken, b.last) in
     let o : Offence = record { problem = problem; at = q } in
     let one : text_line indent p ≡ Err o = text_is indent p h ∙ ap (λ (r : Read Line). r >>= λ l. part l.value l.end) e in
     let none = gathers_none (add_line folded) (text_line indent) (text_shortens indent) p s (gather (add_line folded) s (many (text_line indent) p)) o one refl in

@@ -1,5 +1,6 @@
 -- What the code keeps of the lines of a block scalar, and what was read of them.
-use Rattle.std.specs.Prelude.{◌≡◌, ℕ, ◌++◌, List, [], replicate, Result, Ok, Err, Bool, not, ◌&&◌, ◌||◌, if◌then◌else◌}
+use Rattle.std.specs.Prelude.{◌≡◌, ℕ, ◌<◌, ◌++◌, ◌∷◌, List, [], length, replicate, Result, Ok, Err, Some}
+use Rattle.std.specs.Prelude.{Bool, true, not, ◌&&◌, ◌||◌, if◌then◌else◌}
 use Rattle.yaml_text.specs.declared.types.yaml_mark_t.{yaml_mark_t}
 use Rattle.yaml_text.specs.Chars.{utf8}
 use Rattle.yaml_lexeme.specs.declared.block.empties_t.{empties_t}
@@ -26,16 +27,27 @@ TakesBlanks (Ok column) old new end q (Ok f) =
 TakesBlanks (Ok column) old new end q (Err e) = ⊥
 TakesBlanks (Err e) old new end q read = Refuses e q read
 
+-- a line feed that was appended with the text before it, or none
+abbrev pub feed_if : Bool → List ℕ
+feed_if fed = if fed then line_feed ∷ [] else []
+
 -- what is kept of a text line
 pub record Keeps (tail : tail_t) (line : Line) : Type 0 where
   pub lead : tail.lead ≡ line.break
+  pub fed : tail.fed ≡ true → tail.lead ≡ Some line_feed
   pub empties : breaks_in tail.empties ≡ utf8 line.empties
   pub indented : tail.indented ≡ is_more_indented line
   pub end : tail.end ≡ line.end
 
--- a text line was read, and its text appended to `old`
+-- A break that was appended with its text is a line feed, and what was appended is in the list.
+pub record IsFed (tail : tail_t) (out : List ℕ) : Type 0 where
+  pub lead : tail.fed ≡ true → tail.lead ≡ Some line_feed
+  pub some : tail.fed ≡ true → 0 < length out
+
+-- a text line was read, and its text appended to `old`, perhaps with the line feed that ends it
 abbrev pub TakesLine : Result (Unit {0}) yaml_refusal_t → List ℕ → List ℕ → tail_t → Place → Read Line → Type 0
-TakesLine (Ok _) old new tail q (Ok f) = Keeps tail f.value × (new ≡ old ++ utf8 f.value.text) × (q ≡ f.end)
+TakesLine (Ok _) old new tail q (Ok f) =
+    Keeps tail f.value × (new ≡ (old ++ utf8 f.value.text) ++ feed_if tail.fed) × (q ≡ f.end)
 TakesLine (Ok _) old new tail q (Err e) = ⊥
 TakesLine (Err e) old new tail q read = Refuses e q read
 

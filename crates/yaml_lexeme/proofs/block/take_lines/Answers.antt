@@ -1,7 +1,7 @@
 use Rattle.std.proofs.Common.{◌≡◌, ◌<◌, true, false, length, refl, sym, ap, ◌∙◌}
 use Rattle.std.proofs.lemmas.Result.{err_from_is_err_and}
 use Rattle.yaml_text.specs.declared.types.yaml_mark_t.{yaml_mark_t}
-use Rattle.yaml_lexeme.proofs.Readers.BlockLines.{Blocking, header_refused, start_refused, leading_refused, blocks_begin, blocks_more, blocks_all, blocks_refused}
+use Rattle.yaml_lexeme.proofs.Readers.BlockLines.{Blocking, header_refused, start_refused, leading_refused, blocks_begin, blocks_fed, blocks_more, blocks_all, blocks_refused}
 use Rattle.yaml_lexeme.specs.Block.{header_at, block_indent, set_indent, is_text}
 use Rattle.yaml_lexeme.specs.Place.{first, skip}
 use Rattle.yaml_lexeme.specs.Reading.{found}
@@ -36,7 +36,13 @@ lines-init c =
     let blanks = rw (c.set_indent-set.ensures, c.new.ensures.items) at c.in_ok-column.ensures in
     let indent : c.block_indent-indent.result ≡ block_indent c.args.level (set_indent c.args.level c.in_ok-header.header.digit) c.in_ok-column.column q.mark.column =
     rw c.set_indent-set.ensures at c.block_indent-indent.ensures ∙ ap (λ (m : yaml_mark_t). block_indent c.args.level (set_indent c.args.level c.in_ok-header.header.digit) c.in_ok-column.column m.column) c.mark-2.ensures.value in
-    rw c.in_ok-out.ensures.items (blocks_begin c.args.folded c.args.level p c.in_ok-header.header c.take_header.new.cursor c.take_line_end.new.cursor q c.in_ok-column.column c.block_indent-indent.result _ header c.in_ok-take_line_end.ensures blanks refl refl indent)
+    rw c.in_ok-out.ensures.items (blocks_begin c.args.folded c.args.level p c.in_ok-header.header c.take_header.new.cursor c.take_line_end.new.cursor q c.in_ok-column.column c.block_indent-indent.result _ header c.in_ok-take_line_end.ensures blanks refl refl refl indent)
+
+pub push_between-requires : goal.push_between-requires
+push_between-requires c = blocks_fed c.args.folded c.args.level c.args.cursor.now c.in_ok-header.header.chomp c.block_indent-indent.result c.lines.cursor c.lines.out.items c.lines.tail c.lines.invariant
+
+pub push_chomped-requires : goal.push_chomped-requires
+push_chomped-requires c = blocks_fed c.args.folded c.args.level c.args.cursor.now c.in_ok-header.header.chomp c.block_indent-indent.result c.lines.cursor c.lines.out.items c.lines.tail c.lines.invariant
 
 pub returns-in_err-take_line : goal.returns-in_err-take_line
 returns-in_err-take_line c =
