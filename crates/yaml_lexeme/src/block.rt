@@ -7,7 +7,6 @@ ghost use Rattle.yaml_lexeme.specs.inside.BlockAhead as ahead;
 ghost use Rattle.yaml_lexeme.specs.LexemeOf.{scalar_of};
 ghost use Rattle.yaml_lexeme.specs.inside.Gives.{Gives, Moves};
 ghost use Rattle.yaml_lexeme.specs.Classes.{is_in_line, line_feed};
-ghost use Rattle.yaml_lexeme.specs.Fold.{or_space};
 ghost use Rattle.yaml_lexeme.specs.Place.{skip, break_len, run, after_run};
 ghost use Rattle.yaml_lexeme.specs.inside.Tails.{breaks_in, TakesBlanks, TakesLine, between_tail, chomped_tail};
 ghost use Rattle.yaml_lexeme.specs.inside.Tails.{feed_if, IsFed};
@@ -268,26 +267,28 @@ fn take_break(cursor: &mut cursor_t) -> Option<char>
     if n == 0 { None } else { Some(written(c)) }
 }
 
-/// Appends the first `n` bytes to `out`, and a line feed if it has room. Returns whether it has. If the bytes are few
-/// and there is room for more, a line of bytes is copied as one, and what is too much of it is cut off.
+/// Appends the first `n` bytes to `out`, and a line feed if both have room. Returns whether they have. If the bytes are
+/// few and there is room for more, a line of bytes is copied as one, and what is too much of it is cut off.
 #[inline(always)]
 fn push_fed(out: &mut Vec<u8>, bytes: &[u8], n: usize) -> Result<bool, AllocError>
-    requires { n ≤ length bytes.now }
+    requires { n < length bytes.now }
     ensures { IfOk result (λ fed. out.new.items ≡ (out.old.items ++ take n bytes.now) ++ feed_if fed) }
 {
     let old = out.len();
-    if n < LINE && bytes.len() >= LINE && out.capacity() - old >= LINE {
+    let room = out.capacity() - old;
+    if n < LINE && bytes.len() >= LINE && room >= LINE {
         out.extend_from_slice(&bytes[..LINE])?;
         out[old + n] = b'\n';
         out.truncate(old + n + 1);
         return Ok(true);
     }
-    out.extend_from_slice(&bytes[..n])?;
-    if out.len() == out.capacity() {
-        return Ok(false);
+    if n < room {
+        out.extend_from_slice(&bytes[..n + 1])?;
+        out[old + n] = b'\n';
+        return Ok(true);
     }
-    out.push(b'\n')?;
-    Ok(true)
+    out.extend_from_slice(&bytes[..n])?;
+    Ok(false)
 }
 
 /// Takes what is left of a line and its break, and appends the text to `out`. A line feed is appended with it if both
@@ -352,6 +353,33 @@ fn push_unfed(out: &mut Vec<u8>, tail: &tail_t) -> Result<(), AllocError>
     push_lead(out, tail.lead)
 }
 
+/// Takes the line feed that was appended with the text of a line back, if one was.
+#[inline(always)]
+fn cut_feed(out: &mut Vec<u8>, tail: &tail_t)
+    requires { IsFed tail.now out.old.items }
+    ensures { (x : List ℕ) → out.old.items ≡ x ++ feed_if tail.now.fed → out.new.items ≡ x }
+{
+    if tail.fed {
+        out.truncate(out.len() - 1);
+    }
+}
+
+/// Appends a space. Where a line feed was appended with the text of a line, it becomes that space.
+#[inline(always)]
+fn push_space(out: &mut Vec<u8>, tail: &tail_t) -> Result<(), AllocError>
+    requires { IsFed tail.now out.old.items }
+    ensures { OnOk result ((x : List ℕ) → out.old.items ≡ x ++ feed_if tail.now.fed →
+        out.new.items ≡ x ++ (0x20 ∷ [])) }
+{
+    if tail.fed {
+        let last = out.len() - 1;
+        out[last] = b' ';
+        return Ok(());
+    }
+    out.push(b' ')?;
+    Ok(())
+}
+
 /// Appends so many line feeds.
 #[inline(always)]
 fn push_feeds(out: &mut Vec<u8>, n: usize) -> Result<(), AllocError>
@@ -378,42 +406,8 @@ fn push_empties(out: &mut Vec<u8>, empties: &empties_t) -> Result<(), AllocError
     Ok(())
 }
 
-/// Appends to `out` what comes between a text line whose break is not in it and the next, which begins with a blank if
-/// the flag is set.
-#[inline(always)]
-fn push_after(out: &mut Vec<u8>, folded: bool, tail: &tail_t, next: bool) -> Result<(), AllocError>
-    ensures { OnOk result (out.new.items ≡ out.old.items ++ between_tail folded tail.now next) }
-{
-    if folded && tail.lead == Some('\n') && !(tail.indented || next) {
-        if no_empties(&tail.empties) {
-            out.push(b' ')?;
-        } else {
-            push_empties(out, &tail.empties)?;
-        }
-    } else {
-        push_lead(out, tail.lead)?;
-        push_empties(out, &tail.empties)?;
-    }
-    Ok(())
-}
-
-/// Folds the line feed at the end of `out`: it becomes a space, or else the breaks of the empty lines after it.
-#[inline(always)]
-fn fold_feed(out: &mut Vec<u8>, empties: &empties_t) -> Result<(), AllocError>
-    requires { 0 < length out.old.items }
-    ensures { OnOk result ((x : List ℕ) → out.old.items ≡ x ++ (line_feed ∷ []) →
-        out.new.items ≡ x ++ or_space (breaks_in empties.now)) }
-{
-    let last = out.len() - 1;
-    if no_empties(empties) {
-        out[last] = b' ';
-        return Ok(());
-    }
-    out.truncate(last);
-    push_empties(out, empties)
-}
-
-/// Makes of the end of `out` what comes between a text line and the next, which begins with a blank if the flag is set.
+/// Appends to `out` what comes between a text line and the next, which begins with a blank if the flag is set. A line
+/// feed that was appended with the text is a part of that, or is taken back.
 #[inline(always)]
 fn push_between(
     out: &mut Vec<u8>,
@@ -425,16 +419,22 @@ fn push_between(
     ensures { OnOk result ((x : List ℕ) → out.old.items ≡ x ++ feed_if tail.now.fed →
         out.new.items ≡ x ++ between_tail folded tail.now next) }
 {
-    if !tail.fed {
-        return push_after(out, folded, tail, next);
+    if folded && tail.lead == Some('\n') && !(tail.indented || next) {
+        if no_empties(&tail.empties) {
+            push_space(out, tail)?;
+        } else {
+            cut_feed(out, tail);
+            push_empties(out, &tail.empties)?;
+        }
+    } else {
+        push_unfed(out, tail)?;
+        push_empties(out, &tail.empties)?;
     }
-    if folded && !(tail.indented || next) {
-        return fold_feed(out, &tail.empties);
-    }
-    push_empties(out, &tail.empties)
+    Ok(())
 }
 
-/// Makes of the end of `out` what comes after the last text line.
+/// Appends to `out` what comes after the last text line. A line feed that was appended with the text is a part of that,
+/// or is taken back.
 #[inline(always)]
 fn push_chomped(out: &mut Vec<u8>, chomp: chomp_t, tail: &tail_t) -> Result<(), AllocError>
     requires { IsFed tail.now out.old.items }
@@ -442,11 +442,7 @@ fn push_chomped(out: &mut Vec<u8>, chomp: chomp_t, tail: &tail_t) -> Result<(), 
         out.new.items ≡ x ++ chomped_tail chomp tail.now) }
 {
     match chomp {
-        chomp_t::STRIP => {
-            if tail.fed {
-                out.truncate(out.len() - 1);
-            }
-        }
+        chomp_t::STRIP => cut_feed(out, tail),
         chomp_t::CLIP => push_unfed(out, tail)?,
         chomp_t::KEEP => {
             push_unfed(out, tail)?;

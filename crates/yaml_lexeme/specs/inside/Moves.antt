@@ -1,5 +1,5 @@
 -- How a mark moves over a character, by the one character after it, and a place over what is left of a line.
-use Rattle.std.specs.Prelude.{ℕ, ◌≡◌, ◌≤◌, ◌+◌, Bool, true, not, ◌&&◌, ◌||◌, ◌==◌, if◌then◌else◌, List, length}
+use Rattle.std.specs.Prelude.{ℕ, ◌≡◌, ◌<◌, ◌+◌, Bool, true, not, ◌&&◌, ◌||◌, ◌==◌, if◌then◌else◌, List, length}
 use Rattle.std.specs.Prelude.{slice_index, take, drop}
 use Rattle.std.specs.Char.{len_utf8}
 use Rattle.yaml_text.specs.declared.types.yaml_mark_t.{yaml_mark_t}
@@ -39,7 +39,7 @@ feed_width bytes =
 
 -- The line at p ends with a line feed, alone or after a carriage return, n bytes on, and q is the place after it.
 pub record FedLine (n : ℕ) (p q : Place) : Type 0 where
-  pub within : n ≤ length (utf8 p.rest)
+  pub within : n < length (utf8 p.rest)
   pub text : take n (utf8 p.rest) ≡ utf8 (run is_in_line p)
   pub fed : let end = after_run is_in_line p in is_feed (first end) (peek end 1) ≡ true
   pub end : q ≡ next_line p
