@@ -617,7 +617,8 @@ pub fn yaml_lexeme_fault(
 ///
 /// - a directive: no name after `%`, a name that goes on with another character, an unknown name, what is not a
 ///   comment or a break after it; in `%YAML` no number, a number of more than nine digits (at the tenth), no `.`; in
-///   `%TAG` a handle that does not start with `!` or does not end with one, no blank after the handle or the prefix;
+///   `%TAG` a handle that does not start with `!` or does not end with one, no blank after the handle, or neither a
+///   blank nor a break after the prefix;
 /// - an anchor or alias: no name, or a character after the name that is not allowed there;
 /// - a tag: no `>` after a uri in `<`, or a character after the tag that is not allowed there;
 /// - a uri in a tag or in `%TAG`: no character if one is needed, no `%` with two hexadecimal digits, a lead octet

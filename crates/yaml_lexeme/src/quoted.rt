@@ -429,7 +429,7 @@ fn take_far<const SINGLE: bool>(
 /// Takes what is left of a quoted scalar as `take_far` does, through a copy of the cursor, so that the caller's cursor
 /// stays in registers.
 #[inline(always)]
-fn take_wide(
+fn take_far_apart(
     room: Vec<u8>,
     cursor: &mut cursor_t,
     single: bool,
@@ -487,7 +487,7 @@ pub(crate) fn take_quoted(
     if closes(cursor, single) {
         close(room, cursor, single, left, piece)
     } else if cursor.goes_on(class) {
-        take_wide(room, cursor, single, left)
+        take_far_apart(room, cursor, single, left)
     } else {
         take_after(room, cursor, single, left, piece)
     }

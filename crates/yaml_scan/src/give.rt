@@ -1,4 +1,5 @@
-//! Tokens given to a sink: the next few of a parser, or all of an input; and all of an input in a list.
+//! Tokens given to a sink: the next few of a parser, or all of an input; and all of an input in a list
+//! (`specs/Scanned.antt`, `specs/Sink.antt`, `specs/All.antt`).
 ghost use Rattle.std.specs.Prelude.{◌≡◌, ◌∷◌, [], List, IfErr, IfOk, true, false, ◌⊎◌, Some, ◌≤◌, ◌<◌, length};
 ghost use Rattle.std.specs.Prelude.{MatchResult, OnErr, option_map, map};
 ghost use Rattle.yaml_text.specs.Fault.{fault_of};
@@ -31,7 +32,7 @@ use crate::groups::{group_t, lead_t, lead_token};
 use crate::keys::KEY_LIMIT;
 use crate::parser::{begin, new_state, start, take_head, yaml_parser_t, yaml_scan_next};
 use crate::scanner::state_t;
-use crate::session::is_stream_end;
+use crate::session::is_last;
 use crate::settled::is_settled;
 use crate::sink::{count_of, give, give_group, has_room_for, said_len, yaml_token_sink_t};
 use crate::step::step_to;
@@ -79,7 +80,7 @@ fn is_ready<S: yaml_token_sink_t>(_text: &yaml_text_t, state: &state_t, sink: &S
         return false;
     }
     match queue.groups.front() {
-        Some(head) => !is_stream_end(&head.token)
+        Some(head) => !is_last(&head.token)
             && has_room_for(sink, head.ends, said_len(&head.token.token_data)),
         None => false,
     }
@@ -214,7 +215,7 @@ fn put_or_return<S: yaml_token_sink_t>(sink: &mut S, token: yaml_token_t) -> Opt
     ensures put { IsPutOrReturned (token_of token) (λ tokens. S.took sink.old tokens sink.new) result }
     ensures within { S.within sink.old → S.within sink.new }
 {
-    if is_stream_end(&token) || !sink.has_room(1, said_len(&token.token_data)) {
+    if is_last(&token) || !sink.has_room(1, said_len(&token.token_data)) {
         return returned(token);
     }
     match sink.put(token) {
@@ -302,7 +303,7 @@ fn give_taken<S: yaml_token_sink_t>(sink: &mut S, token: yaml_token_t) -> Result
     requires { HasWords (token_of token).token_data }
     ensures { GivesNext (λ tokens. S.took sink.old tokens sink.new) S.may_refuse (token_of token) result }
 {
-    let last = is_stream_end(&token);
+    let last = is_last(&token);
     give(sink, token)?;
     Ok(last)
 }

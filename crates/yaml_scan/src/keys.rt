@@ -1,5 +1,5 @@
 //! Simple keys: the candidate of each flow depth, which a `:` may yet make a key (YAML 1.1, 10.2 Mappings, simple
-//! keys).
+//! keys). The slots, and what is kept of a candidate, are types of `depth`.
 ghost use Rattle.std.specs.Prelude.{◌≡◌, ◌+◌, ◌-◌, ◌<◌, ◌&&◌, ◌++◌, ◌∷◌, [], Option, None, map, vec_len};
 ghost use Rattle.std.specs.Prelude.{length, nat_lt, true};
 ghost use Rattle.yaml_scan.specs.Kind.{is_flow_start};
@@ -30,7 +30,11 @@ impl candidate_t {
 
 /// A candidate, unless it is stale at a mark.
 #[inline(always)]
-pub(crate) fn still_held(slot: Option<candidate_t>, limit: u64, mark: yaml_mark_t) -> Option<candidate_t>
+pub(crate) fn still_held(
+    slot: Option<candidate_t>,
+    limit: u64,
+    mark: yaml_mark_t,
+) -> Option<candidate_t>
     ensures { result ≡ still_held limit mark slot }
 {
     match slot {
@@ -206,7 +210,7 @@ pub(crate) fn completed_by(
 /// Empties a slot, which is rare. A build clears the stack of what a function makes at the function's beginning, also
 /// where a rare branch alone makes it. So this branch is a function of its own.
 #[inline(always)]
-fn empty(slot: &mut Option<candidate_t>)
+fn clear(slot: &mut Option<candidate_t>)
     ensures { slot.new ≡ None }
 {
     *slot = None;
@@ -219,7 +223,7 @@ fn give_up(slot: &mut Option<candidate_t>, limit: u64, mark: yaml_mark_t)
 {
     if let Some(held) = *slot {
         if !held.is_live(limit, mark) {
-            empty(slot);
+            clear(slot);
         }
     }
 }

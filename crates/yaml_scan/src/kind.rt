@@ -31,7 +31,7 @@ pub(crate) fn is_colon(kind: yaml_lexeme_kind_t) -> bool
     matches!(kind, yaml_lexeme_kind_t::VALUE)
 }
 
-pub(crate) fn is_last(kind: yaml_lexeme_kind_t) -> bool
+pub(crate) fn is_stream_end(kind: yaml_lexeme_kind_t) -> bool
     ensures { result ≡ is_stream_end kind }
 {
     matches!(kind, yaml_lexeme_kind_t::STREAM_END)
@@ -88,7 +88,7 @@ pub(crate) fn stays_open(
     in_flow || (!is_closer(kind) && column <= start.column)
 }
 
-fn end_mark(gap_end: yaml_mark_t) -> yaml_mark_t
+fn end_of(gap_end: yaml_mark_t) -> yaml_mark_t
     requires { gap_end.line + 1 < 2 ^ 64 }
     ensures { result ≡ end_of gap_end }
 {
@@ -108,8 +108,8 @@ pub(crate) fn start_after(kind: yaml_lexeme_kind_t, gap_end: yaml_mark_t) -> yam
     requires { gap_end.line + 1 < 2 ^ 64 }
     ensures { result ≡ start_at kind gap_end }
 {
-    if is_last(kind) {
-        end_mark(gap_end)
+    if is_stream_end(kind) {
+        end_of(gap_end)
     } else {
         gap_end
     }
@@ -123,7 +123,7 @@ pub(crate) struct step_t {
     pub in_flow: bool,
     /// Whether a key is allowed there.
     pub allowed: bool,
-    /// What is kept of the lexeme, if it is a candidate.
+    /// What is kept of the lexeme, if it is a candidate. Its start is that of the lexeme, of whatever kind.
     pub new: candidate_t,
     pub context: yaml_context_t,
 }

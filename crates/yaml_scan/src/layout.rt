@@ -27,8 +27,8 @@ use crate::allowed::is_allowed_after;
 use crate::depth::slots_t;
 use crate::follower::{follower_of, lay_followed};
 use crate::groups::{block_t, group_t};
-use crate::keys::{completed_by, is_lost, change_slot};
-use crate::kind::{is_last, step_t};
+use crate::keys::{change_slot, completed_by, is_lost};
+use crate::kind::{is_stream_end, step_t};
 use crate::levels::close_levels;
 use crate::scanner::state_t;
 use crate::sink::{
@@ -147,7 +147,7 @@ fn has_to_wait<S: yaml_token_sink_t>(
         → group.opens ≡ opens → group.key ≡ false → said_len (token_of group.token).token_data ≤ texts
         → S.took sink.now (group_tokens group) after → S.within after }
 {
-    is_last(kind)
+    is_stream_end(kind)
         || state.slots.awaited > 0
         || !state.layout.queue.groups.is_empty()
         || !has_room_for_laid(sink, ends, opens, texts)
@@ -260,7 +260,8 @@ fn check_reach(
     Ok(())
 }
 
-/// Ends a step with a lexeme that was read: one character, or the stream end. What comes right after it is not asked
+/// Ends a step with a lexeme that was read: one character, a document marker
+/// or the stream end. What comes right after it is not asked
 /// for. Stops if it is near the reader's fault, or a candidate is lost.
 #[inline(always)]
 pub(crate) fn end_character<const DIRECT: bool, S: yaml_token_sink_t>(

@@ -1,4 +1,5 @@
-//! Indentation levels: the columns of the block collections that are open (YAML 1.1, 6.1 Indentation Spaces).
+//! Indentation levels: the columns of the block collections that are open (YAML 1.1, 6.1 Indentation Spaces). A key
+//! may open one and mark a group of the queue, so the type that has both is here.
 ghost use Rattle.std.specs.Prelude.{◌≡◌, ◌+◌, ◌-◌, ◌<◌, ◌≤◌, ◌&&◌, ◌++◌, ◌∷◌, [], true, false, not, reverse, map};
 ghost use Rattle.std.specs.Prelude.{filter, length, vec_len, nat_lt, None, Some, if◌then◌else◌};
 ghost use Rattle.std.specs.Vec.{vec_capacity};
@@ -16,7 +17,7 @@ ghost use Rattle.yaml_scan.specs.inside.Slots.{is_level};
 
 use crate::depth::candidate_t;
 use crate::groups::{block_t, queue_t};
-use crate::kind::{is_last, is_opener_kind, stays_open, step_t};
+use crate::kind::{is_opener_kind, is_stream_end, stays_open, step_t};
 use yaml_lexeme::yaml_lexeme_kind_t;
 use yaml_text::yaml_mark_t;
 
@@ -25,7 +26,7 @@ use yaml_text::yaml_mark_t;
 fn ends_early(kind: yaml_lexeme_kind_t, gap_end: yaml_mark_t, column: u64) -> bool
     ensures { result ≡ (is_stream_end kind && nat_lt gap_end.column column) }
 {
-    is_last(kind) && gap_end.column < column
+    is_stream_end(kind) && gap_end.column < column
 }
 
 /// The greatest level, if a lexeme closes it.

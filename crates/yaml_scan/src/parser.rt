@@ -36,7 +36,7 @@ use crate::keys::KEY_LIMIT;
 use crate::levels::layout_t;
 use crate::near::{near_of, near_start};
 use crate::scanner::state_t;
-use crate::session::{is_stream_end, session_t};
+use crate::session::{is_last, session_t};
 use crate::settled::settle_head;
 use crate::stop::{fault_at, stop_t};
 use std::alloc::Global;
@@ -464,7 +464,7 @@ pub fn yaml_scan_next(parser: &mut yaml_parser_t) -> Result<(yaml_token_t, bool)
 {
     match yaml_parser_scan(parser) {
         Ok(token) => {
-            let last = is_stream_end(&token);
+            let last = is_last(&token);
             Ok((token, last))
         }
         Err(fault) => Err(fault),

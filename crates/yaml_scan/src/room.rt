@@ -1,5 +1,5 @@
 //! What the calls of a kept parser do: tokens are given to a sink until it has no room, or the next one is shown. A
-//! token without room stays in the queue.
+//! token without room stays in the queue (`specs/KeptCalls.antt`, `specs/inside/KeptParts.antt`).
 ghost use Rattle.std.specs.Prelude.{◌≡◌, ◌⊎◌, ◌<◌, ◌-◌, ◌∷◌, [], List, Ok, true, false, length};
 ghost use Rattle.yaml_text.specs.Token.{Token};
 ghost use Rattle.yaml_text.specs.declared.token.yaml_token_t.{yaml_token_t as code_token_t};

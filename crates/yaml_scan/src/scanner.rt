@@ -10,7 +10,7 @@ ghost use Rattle.yaml_scan.specs.inside.Slots.{is_level, root_of, slot_after};
 
 use crate::depth::{candidate_t, slots_t};
 use crate::groups::queue_t;
-use crate::keys::{completed_by, needed_at, root_at, change_slot};
+use crate::keys::{change_slot, completed_by, needed_at, root_at};
 use crate::kind::{is_candidate_kind, is_colon, problem, start_after, step_t};
 use crate::levels::{is_level, layout_t, level_at};
 use std::alloc::Global;

@@ -26,7 +26,7 @@ impl session_t {
         } }
     {
         self.peeked = false;
-        self.over = is_stream_end(token);
+        self.over = is_last(token);
     }
 
     /// Ends the session with a fault, and keeps that.
@@ -42,7 +42,7 @@ impl session_t {
 }
 
 /// Whether a token is the stream end.
-pub(crate) fn is_stream_end(token: &yaml_token_t) -> bool
+pub(crate) fn is_last(token: &yaml_token_t) -> bool
     ensures { result ≡ is_last_type (type_of (data_of token.now.token_data)) }
 {
     matches!(token.token_data, unnamed_yaml_token_t_data::STREAM_END)

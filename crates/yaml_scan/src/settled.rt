@@ -27,7 +27,8 @@ pub(crate) fn is_settled(_text: &yaml_text_t, state: &state_t) -> bool
     !state.layout.queue.groups.is_empty() && !is_awaited(state)
 }
 
-/// Makes a step, or two if the next token needs both, unless the scanner has to stop there.
+/// Makes a step, or two if the next token needs both, unless the scanner has to stop there: `step`, with what it means
+/// for the history that the state has.
 #[inline(always)]
 fn advance(text: &yaml_text_t, state: &mut state_t) -> Result<(), stop_t>
     requires runs { IsRunning (scanner_of text.now state.old) }

@@ -8,7 +8,7 @@ ghost use Rattle.yaml_text.specs.Text.{Text};
 ghost use Rattle.yaml_scan.specs.Sink.{said_len, texts_len};
 ghost use Rattle.yaml_scan.specs.Words.{HasWords};
 ghost use Rattle.yaml_scan.specs.declared.stop.stop_t.TheVariants.{SINK};
-ghost use Rattle.yaml_scan.specs.inside.Queue.{ends_at, leads, start_at};
+ghost use Rattle.yaml_scan.specs.inside.Queue.{ends_at, leads, starts_at};
 ghost use Rattle.yaml_scan.specs.Groups.Token.{InsertedKey};
 ghost use Rattle.yaml_scan.specs.inside.Handed.{Gives, IsHandedOn, group_tokens, keys_of, lone, starts_of, told_leads};
 ghost use Rattle.yaml_scan.specs.inside.Scanner.{scanner_of};
@@ -123,7 +123,8 @@ fn give_start<S: yaml_token_sink_t>(
     opens: block_t,
     mark: yaml_mark_t,
 ) -> Result<(), stop_t>
-    ensures { Gives (λ tokens. S.took sink.old tokens sink.new) S.may_refuse (told_leads (start_at opens mark)) result }
+    ensures { Gives (λ tokens. S.took sink.old tokens sink.new) S.may_refuse
+        (told_leads (starts_at opens mark)) result }
 {
     match opens {
         block_t::NONE => Ok(()),
@@ -151,7 +152,7 @@ fn give_blocks<S: yaml_token_sink_t>(
     mark: yaml_mark_t,
 ) -> Result<(), stop_t>
     ensures { Gives (λ tokens. S.took sink.old tokens sink.new) S.may_refuse
-        (told_leads (ends_at ends mark ++ start_at opens mark)) result }
+        (told_leads (ends_at ends mark ++ starts_at opens mark)) result }
 {
     give_ends(sink, ends, mark)?;
     give_start(sink, opens, mark)
@@ -161,7 +162,7 @@ fn give_blocks<S: yaml_token_sink_t>(
 #[inline(always)]
 fn has_blocks(group: &group_t) -> bool
     ensures { result ≡ false → ends_at group.now.ends group.now.token.start_mark
-        ++ start_at group.now.opens group.now.token.start_mark ≡ [] }
+        ++ starts_at group.now.opens group.now.token.start_mark ≡ [] }
 {
     group.ends > 0 || !matches!(group.opens, block_t::NONE)
 }
@@ -171,7 +172,7 @@ fn has_blocks(group: &group_t) -> bool
 fn give_blocks_of<S: yaml_token_sink_t>(sink: &mut S, group: &group_t) -> Result<(), stop_t>
     ensures { let mark = group.now.token.start_mark in
         Gives (λ tokens. S.took sink.old tokens sink.new) S.may_refuse
-        (told_leads (ends_at group.now.ends mark ++ start_at group.now.opens mark)) result }
+        (told_leads (ends_at group.now.ends mark ++ starts_at group.now.opens mark)) result }
 {
     if has_blocks(group) {
         give_blocks(sink, group.ends, group.opens, group.token.start_mark)

@@ -294,6 +294,18 @@ pub(crate) fn read_character(
     yaml_read_character(text, state.gap_end, kind)
 }
 
+/// The kind of a document marker: of `---`, which starts a document, or of `...`, which ends one.
+#[inline(always)]
+pub(crate) fn marker_kind(start: bool) -> yaml_lexeme_kind_t
+    ensures { result ≡ marker_kind start }
+{
+    if start {
+        yaml_lexeme_kind_t::DOCUMENT_START
+    } else {
+        yaml_lexeme_kind_t::DOCUMENT_END
+    }
+}
+
 /// The document marker after the gap: `---` if `start` is set, and else `...`.
 #[inline(always)]
 pub(crate) fn read_marker(text: &yaml_text_t, state: &state_t, start: bool) -> yaml_lexeme_t

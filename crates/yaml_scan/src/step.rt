@@ -21,9 +21,9 @@ use crate::layout::{end_character, end_laid, end_queued, lay_read};
 use crate::scanner::state_t;
 use crate::sink::{no_sink_t, yaml_token_sink_t};
 use crate::source::{
-    block_reader_t, directive_reader_t, gap_end, kind_at, name_reader_t, plain_reader_t,
-    quoted_reader_t, read_character, read_lexeme, read_marker, read_stream_end, reader_t,
-    tag_reader_t,
+    block_reader_t, directive_reader_t, gap_end, kind_at, marker_kind, name_reader_t,
+    plain_reader_t, quoted_reader_t, read_character, read_lexeme, read_marker, read_stream_end,
+    reader_t, tag_reader_t,
 };
 use crate::stop::{stop_at_kind, stop_at_start, stop_in_gap, stop_t, stop_without_kind, stopped};
 use yaml_lexeme::yaml_lexeme_kind_t;
@@ -193,18 +193,6 @@ fn step_character<const DIRECT: bool, S: yaml_token_sink_t>(
             end_character::<DIRECT, S>(text, state, sink, step, lexeme)
         }
         Err(stop) => Err(stopped(stop)),
-    }
-}
-
-/// The kind of a document marker: of `---`, which starts a document, or of `...`, which ends one.
-#[inline(always)]
-fn marker_kind(start: bool) -> yaml_lexeme_kind_t
-    ensures { result ≡ marker_kind start }
-{
-    if start {
-        yaml_lexeme_kind_t::DOCUMENT_START
-    } else {
-        yaml_lexeme_kind_t::DOCUMENT_END
     }
 }
 

@@ -18,7 +18,7 @@ use Rattle.yaml_scan.specs.Groups.{Token, end_mark, group, groups, inserted, blo
 use Rattle.yaml_scan.specs.Groups.{handed_out}
 use Rattle.yaml_scan.specs.Settled.{up_to}
 use Rattle.yaml_scan.specs.Groups.Token.{StreamStart, BlockEnd, BlockSequenceStart, BlockMappingStart, InsertedKey, OfLexeme}
-use Rattle.yaml_scan.specs.inside.Queue.{IsQueue, ends_at, start_at, leads, early_before, pending, begins_with_end}
+use Rattle.yaml_scan.specs.inside.Queue.{IsQueue, ends_at, starts_at, leads, early_before, pending, begins_with_end}
 use Rattle.yaml_scan.specs.inside.Queue.{keyed, keyed_at}
 use Rattle.yaml_scan.proofs.History.KeyCandidates.{IsCandidateOf, candidate_split}
 use Rattle.yaml_scan.proofs.TokenList.GroupInsertion.{groups_from, groups_was, candidate_not_completed}
@@ -74,7 +74,7 @@ ends_at_made (suc n) m = (refl, ends_at_made n m)
 pub leads_made : (y : group_t) → AreMade (leads y)
 leads_made y = made-append (ends_at y.ends y.token.start_mark) _ (ends_at_made y.ends y.token.start_mark) (go y.opens y.key)
   where
-    go : (o : block_t) (k : Bool) → AreMade (start_at o y.token.start_mark ++ (if k then InsertedKey y.token.start_mark ∷ [] else []))
+    go : (o : block_t) (k : Bool) → AreMade (starts_at o y.token.start_mark ++ (if k then InsertedKey y.token.start_mark ∷ [] else []))
     go NONE true = (refl, tt)
     go NONE false = tt
     go SEQUENCE true = (refl, (refl, tt))
@@ -269,11 +269,11 @@ split_made (a ∷ cs) x r (y ∷ w) q p l u n e =
 ends_only : (y : group_t) → AreEnds (leads y) → (y.opens ≡ NONE) × (y.key ≡ false)
 ends_only y p = go y.opens y.key (skip y.ends p) refl refl
   where
-    skip : (n : ℕ) → AreEnds (ends_at n y.token.start_mark ++ (start_at y.opens y.token.start_mark ++ (if y.key then InsertedKey y.token.start_mark ∷ [] else []))) → AreEnds (start_at y.opens y.token.start_mark ++ (if y.key then InsertedKey y.token.start_mark ∷ [] else []))
+    skip : (n : ℕ) → AreEnds (ends_at n y.token.start_mark ++ (starts_at y.opens y.token.start_mark ++ (if y.key then InsertedKey y.token.start_mark ∷ [] else []))) → AreEnds (starts_at y.opens y.token.start_mark ++ (if y.key then InsertedKey y.token.start_mark ∷ [] else []))
     skip zero p = p
     skip (suc n) p = skip n p.1
 
-    go : (o : block_t) (k : Bool) → AreEnds (start_at o y.token.start_mark ++ (if k then InsertedKey y.token.start_mark ∷ [] else [])) → y.opens ≡ o → y.key ≡ k → (y.opens ≡ NONE) × (y.key ≡ false)
+    go : (o : block_t) (k : Bool) → AreEnds (starts_at o y.token.start_mark ++ (if k then InsertedKey y.token.start_mark ∷ [] else [])) → y.opens ≡ o → y.key ≡ k → (y.opens ≡ NONE) × (y.key ≡ false)
     go NONE false p e f = (e, f)
     go NONE true p e f = absurd (false≢true p.0)
     go SEQUENCE k p e f = absurd (false≢true p.0)
@@ -286,7 +286,7 @@ key_at new m = (if new then BlockMappingStart m ∷ [] else []) ++ (InsertedKey 
 keyed_leads : (y : group_t) (b : Bool) (m : yaml_mark_t) → y.opens ≡ NONE → y.key ≡ false → y.token.start_mark ≡ m → leads (keyed b y) ≡ leads y ++ key_at b m
 keyed_leads y b m o k e = rw (o, k, ← e) (go b)
   where
-    go : (b : Bool) → ends_at y.ends y.token.start_mark ++ (start_at (if b then MAPPING else NONE) y.token.start_mark ++ (InsertedKey y.token.start_mark ∷ [])) ≡ (ends_at y.ends y.token.start_mark ++ []) ++ key_at b y.token.start_mark
+    go : (b : Bool) → ends_at y.ends y.token.start_mark ++ (starts_at (if b then MAPPING else NONE) y.token.start_mark ++ (InsertedKey y.token.start_mark ∷ [])) ≡ (ends_at y.ends y.token.start_mark ++ []) ++ key_at b y.token.start_mark
     go true = rw (append-nil (ends_at y.ends y.token.start_mark)) refl
     go false = rw (append-nil (ends_at y.ends y.token.start_mark)) refl
 

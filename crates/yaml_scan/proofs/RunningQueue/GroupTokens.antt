@@ -18,7 +18,7 @@ use Rattle.yaml_scan.specs.Groups.Token.{StreamStart, BlockEnd, BlockSequenceSta
 use Rattle.yaml_scan.specs.Laws.{is_of_lexeme}
 use Rattle.yaml_scan.specs.Token.{yaml_token_t, at_mark}
 use Rattle.yaml_scan.specs.inside.Handed.{Gives, IsCut, group_tokens, is_end, keys_of, starts_of, told_leads}
-use Rattle.yaml_scan.specs.inside.Queue.{ends_at, leads, start_at}
+use Rattle.yaml_scan.specs.inside.Queue.{ends_at, leads, starts_at}
 use Rattle.yaml_scan.proofs.RunningQueue.CandidateGroup.{AreMade, leads_made}
 
 -- BLOCK ENDS
@@ -44,7 +44,7 @@ pub ends_count : (n : ℕ) (m : yaml_mark_t) → length (ends_at n m) ≡ n
 ends_count zero m = refl
 ends_count (suc n) m = ap suc (ends_count n m)
 
-starts_count : (b : block_t) (m : yaml_mark_t) → length (start_at b m) ≡ starts_of b
+starts_count : (b : block_t) (m : yaml_mark_t) → length (starts_at b m) ≡ starts_of b
 starts_count NONE m = refl
 starts_count SEQUENCE m = refl
 starts_count MAPPING m = refl
@@ -72,8 +72,8 @@ count_is y =
     let a = ends_count y.ends m in
     let b = starts_count y.opens m in
     let c = keys_count y.key m in
-    let d = length-append (ends_at y.ends m) (start_at y.opens m ++ (if y.key then InsertedKey m ∷ [] else [])) in
-    let e = length-append (start_at y.opens m) (if y.key then InsertedKey m ∷ [] else []) in
+    let d = length-append (ends_at y.ends m) (starts_at y.opens m ++ (if y.key then InsertedKey m ∷ [] else [])) in
+    let e = length-append (starts_at y.opens m) (if y.key then InsertedKey m ∷ [] else []) in
     let f = told_count (leads y) in
     let g = length-append (told_leads (leads y)) (token_of y.token ∷ []) in
     omega arith
@@ -131,5 +131,5 @@ module _ {S : Type 0} (took : S → List yaml_token_t → S → Type 0) (more : 
       (cut_after (told_leads (ends_at k m)) (x ∷ []) t q)
 
 -- what a group without a key hands out before its token
-pub keyless_leads : (y : group_t) → y.key ≡ false → leads y ≡ ends_at y.ends y.token.start_mark ++ start_at y.opens y.token.start_mark
-keyless_leads y e = rw e (ap (λ (xs : List Token). ends_at y.ends y.token.start_mark ++ xs) (append-nil (start_at y.opens y.token.start_mark)))
+pub keyless_leads : (y : group_t) → y.key ≡ false → leads y ≡ ends_at y.ends y.token.start_mark ++ starts_at y.opens y.token.start_mark
+keyless_leads y e = rw e (ap (λ (xs : List Token). ends_at y.ends y.token.start_mark ++ xs) (append-nil (starts_at y.opens y.token.start_mark)))

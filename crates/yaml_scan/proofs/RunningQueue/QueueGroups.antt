@@ -15,7 +15,7 @@ use Rattle.yaml_scan.specs.Token.{yaml_token_t}
 use Rattle.yaml_scan.specs.Groups.{Token, handed_out}
 use Rattle.yaml_scan.specs.Groups.Token.{BlockEnd, InsertedKey}
 use Rattle.yaml_scan.specs.Laws.{is_of_lexeme}
-use Rattle.yaml_scan.specs.inside.Queue.{IsBare, IsQueue, IsLead, Takes, TakesNext, DropsLead, lead_tokens, ends_at, start_at, leads, early_before}
+use Rattle.yaml_scan.specs.inside.Queue.{IsBare, IsQueue, IsLead, Takes, TakesNext, DropsLead, lead_tokens, ends_at, starts_at, leads, early_before}
 use Rattle.yaml_scan.specs.inside.Queue.{pending, begins_with_end, keyed, keyed_at}
 
 -- WHAT IS NEXT
@@ -35,10 +35,10 @@ early_next (suc n) m [] e = absurd (false≢true (sym (and_no (nat_lt 0 (suc n))
 early_next (suc n) m (y ∷ []) e = refl
 early_next (suc n) m (y ∷ (z ∷ ys)) e = absurd (false≢true (sym (ap (λ (b : Bool). nat_lt 0 (suc n) && b) (not_one (length ys)) ∙ and_no (nat_lt 0 (suc n))) ∙ e))
 
-no_end : (y : group_t) → begins_with_end (start_at y.opens y.token.start_mark ++ (if y.key then InsertedKey y.token.start_mark ∷ [] else [])) ≡ false
+no_end : (y : group_t) → begins_with_end (starts_at y.opens y.token.start_mark ++ (if y.key then InsertedKey y.token.start_mark ∷ [] else [])) ≡ false
 no_end y = go y.opens y.key
   where
-    go : (o : block_t) (k : Bool) → begins_with_end (start_at o y.token.start_mark ++ (if k then InsertedKey y.token.start_mark ∷ [] else [])) ≡ false
+    go : (o : block_t) (k : Bool) → begins_with_end (starts_at o y.token.start_mark ++ (if k then InsertedKey y.token.start_mark ∷ [] else [])) ≡ false
     go NONE true = refl
     go NONE false = refl
     go SEQUENCE k = refl
@@ -47,7 +47,7 @@ no_end y = go y.opens y.key
 leads_next : (y : group_t) → begins_with_end (leads y) ≡ nat_lt 0 y.ends
 leads_next y = go y.ends
   where
-    go : (n : ℕ) → begins_with_end (ends_at n y.token.start_mark ++ (start_at y.opens y.token.start_mark ++ (if y.key then InsertedKey y.token.start_mark ∷ [] else []))) ≡ nat_lt 0 n
+    go : (n : ℕ) → begins_with_end (ends_at n y.token.start_mark ++ (starts_at y.opens y.token.start_mark ++ (if y.key then InsertedKey y.token.start_mark ∷ [] else []))) ≡ nat_lt 0 n
     go zero = no_end y
     go (suc n) = sym (some_more n)
 

@@ -18,7 +18,7 @@ use Rattle.yaml_scan.specs.Laid.{Laid}
 use Rattle.yaml_scan.specs.Settled.{before}
 use Rattle.yaml_scan.specs.Token.{yaml_token_t}
 use Rattle.yaml_scan.specs.inside.Handed.{groups_tokens, told_leads}
-use Rattle.yaml_scan.specs.inside.Queue.{IsQueue, ends_at, leads, pending, start_at}
+use Rattle.yaml_scan.specs.inside.Queue.{IsQueue, ends_at, leads, pending, starts_at}
 use Rattle.yaml_scan.specs.inside.Scanning.{HoldsWith}
 use Rattle.yaml_scan.specs.inside.Slots.{Held, lowest, outer_to, held_step}
 use Rattle.yaml_scan.proofs.TokenList.SettledStays.{before-offline}
@@ -35,7 +35,7 @@ module _ (e : yaml_encoding_t) where
   ends_told zero m = refl
   ends_told (suc n) m = ap (λ (z : List yaml_token_t). handed_out e (BlockEnd m) ∷ z) (ends_told n m)
 
-  start_told : (o : block_t) (m : yaml_mark_t) → hand_out (start_at o m) ≡ told_leads (start_at o m)
+  start_told : (o : block_t) (m : yaml_mark_t) → hand_out (starts_at o m) ≡ told_leads (starts_at o m)
   start_told NONE m = refl
   start_told SEQUENCE m = refl
   start_told MAPPING m = refl
@@ -50,7 +50,7 @@ module _ (e : yaml_encoding_t) where
   pub leads_told : (y : group_t) → hand_out (leads y) ≡ told_leads (leads y)
   leads_told y =
       let m = y.token.start_mark in
-      let start = start_at y.opens m in
+      let start = starts_at y.opens m in
       let key = key_in y.key m in
       rw (map-append (handed_out e) (ends_at y.ends m) (start ++ key), map-append (handed_out e) start key, ends_told y.ends m, start_told y.opens m, key_told y.key m) (
       ap (λ (z : List yaml_token_t). told_leads (ends_at y.ends m) ++ z) (sym (map-append _ start key)) ∙ sym (map-append _ (ends_at y.ends m) (start ++ key))

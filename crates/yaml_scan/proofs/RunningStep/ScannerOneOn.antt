@@ -25,7 +25,7 @@ use Rattle.yaml_scan.specs.declared.groups.group_t.{group_t}
 use Rattle.yaml_text.specs.Token.{token_of}
 use Rattle.yaml_scan.specs.inside.Opened.{is_new, opened}
 use Rattle.yaml_scan.specs.Laws.{key_tokens}
-use Rattle.yaml_scan.specs.inside.Queue.{IsQueue, Fitting, ends_at, start_at, start_of, leads, keyed_at, completed_in}
+use Rattle.yaml_scan.specs.inside.Queue.{IsQueue, Fitting, ends_at, starts_at, start_of, leads, keyed_at, completed_in}
 use Rattle.yaml_scan.specs.inside.Queue.{opened_by}
 use Rattle.yaml_scan.proofs.RunningQueue.QueueGroups.{put_after}
 use Rattle.yaml_scan.proofs.RunningQueue.CandidateGroup.{Stands, stands, count, taken_count, key_put, key_at}
@@ -193,16 +193,16 @@ module _ (limit : ℕ) (H : List Laid) (x : Lexeme) (h : IsHistory limit (laid l
   group_none e = rw (opens_self limit (laid limit H x) H h, itself_is (completed_none e), completed_self limit (laid limit H x) H h, lexeme_is)
       (ap (λ (l : List Token). block_ends (laid limit H x) ++ (l ++ OfLexeme x ∷ [])) (append-nil _))
 
-  start_is : (b : Bool) → start_at (if b then start_of x.kind else NONE) x.start ≡ (if b then start_token x.kind x.start ∷ [] else [])
+  start_is : (b : Bool) → starts_at (if b then start_of x.kind else NONE) x.start ≡ (if b then start_token x.kind x.start ∷ [] else [])
   start_is true = go (is_block_entry x.kind)
     where
-      go : (b : Bool) → start_at (if b then SEQUENCE else MAPPING) x.start ≡ (if b then BlockSequenceStart x.start else BlockMappingStart x.start) ∷ []
+      go : (b : Bool) → starts_at (if b then SEQUENCE else MAPPING) x.start ≡ (if b then BlockSequenceStart x.start else BlockMappingStart x.start) ∷ []
       go true = refl
       go false = refl
   start_is false = refl
 
   queue_none : (t : ℕ) → t ≤ length (before limit H) → completed_by limit H x.kind x.start ≡ None
-      → drop t (offline H) ++ ((block_ends (laid limit H x) ++ start_at (opened_by (nat_lt 0 (depth H)) None x.kind x.start.column (staying_columns H x.kind x.start)) x.start) ++ OfLexeme x ∷ [])
+      → drop t (offline H) ++ ((block_ends (laid limit H x) ++ starts_at (opened_by (nat_lt 0 (depth H)) None x.kind x.start.column (staying_columns H x.kind x.start)) x.start) ++ OfLexeme x ∷ [])
       ≡ drop t (offline (laid limit H x ∷ H))
   queue_none t l e =
       let b = before-offline limit H h.2 in
@@ -225,10 +225,10 @@ module _ (limit : ℕ) (H : List Laid) (x : Lexeme) (h : IsHistory limit (laid l
     S : y.token.start_mark ≡ x.start
     S = ap (λ (t : yaml_token_t). t.start_mark) Y
 
-    leads_are : (o : block_t) → y.opens ≡ o → ends_at n f ++ leads y ≡ block_ends (laid limit H x) ++ start_at o x.start
-    leads_are o O = rw (K, O, S) (ap (λ (l : List Token). ends_at n f ++ (ends_at y.ends x.start ++ l)) (append-nil (start_at o x.start)) ∙ sym (append_assoc (ends_at n f) (ends_at y.ends x.start) (start_at o x.start)) ∙ ap (λ (l : List Token). l ++ start_at o x.start) E)
+    leads_are : (o : block_t) → y.opens ≡ o → ends_at n f ++ leads y ≡ block_ends (laid limit H x) ++ starts_at o x.start
+    leads_are o O = rw (K, O, S) (ap (λ (l : List Token). ends_at n f ++ (ends_at y.ends x.start ++ l)) (append-nil (starts_at o x.start)) ∙ sym (append_assoc (ends_at n f) (ends_at y.ends x.start) (starts_at o x.start)) ∙ ap (λ (l : List Token). l ++ starts_at o x.start) E)
 
-    put_here : (zs : List group_t) (q : List Token) (o : block_t) → IsQueue e 0 m zs q → y.opens ≡ o → IsQueue e n f (zs ++ y ∷ []) (q ++ ((block_ends (laid limit H x) ++ start_at o x.start) ++ OfLexeme x ∷ []))
+    put_here : (zs : List group_t) (q : List Token) (o : block_t) → IsQueue e 0 m zs q → y.opens ≡ o → IsQueue e n f (zs ++ y ∷ []) (q ++ ((block_ends (laid limit H x) ++ starts_at o x.start) ++ OfLexeme x ∷ []))
     put_here zs q o R O = subst (λ (l : List Token). IsQueue e n f (zs ++ y ∷ []) (q ++ (l ++ OfLexeme x ∷ []))) (leads_are o O) (put_after e m f n zs q y (OfLexeme x) R Y refl)
 
     pub queue_more : y.opens ≡ opened_by (nat_lt 0 (depth H)) (option_map held_of (completed_by limit H x.kind x.start)) x.kind x.start.column (staying_columns H x.kind x.start)

@@ -26,15 +26,15 @@ ends_at zero m = []
 ends_at (suc n) m = BlockEnd m ∷ ends_at n m
 
 -- the start of a block collection, or none
-abbrev pub start_at : block_t → yaml_mark_t → List Token
-start_at NONE m = []
-start_at SEQUENCE m = BlockSequenceStart m ∷ []
-start_at MAPPING m = BlockMappingStart m ∷ []
+abbrev pub starts_at : block_t → yaml_mark_t → List Token
+starts_at NONE m = []
+starts_at SEQUENCE m = BlockSequenceStart m ∷ []
+starts_at MAPPING m = BlockMappingStart m ∷ []
 
 -- what a group hands out before its token, at the token's start
 abbrev pub leads : group_t → List Token
 leads y = ends_at y.ends y.token.start_mark
-    ++ (start_at y.opens y.token.start_mark ++ (if y.key then InsertedKey y.token.start_mark ∷ [] else []))
+    ++ (starts_at y.opens y.token.start_mark ++ (if y.key then InsertedKey y.token.start_mark ∷ [] else []))
 
 -- the early block ends come before the group that no other one follows
 abbrev pub early_before : ℕ → yaml_mark_t → List group_t → List Token

@@ -8,4 +8,4 @@ returns-in-Err-clause-fault c = λ given h. let p = c.args.parser.now in
 
 pub returns-in-Ok-clause-token : goal.returns-in-Ok-clause-token
 returns-in-Ok-clause-token c = λ given h. let p = c.args.parser.now in
-    (scans_on p.limit p.setting p.input p given h (token_of c.in-Ok.token) c.yaml_parser_scan.new.parser c.is_stream_end-last.result c.is_stream_end-last.ensures c.in-Ok.ensures.answers).0
+    (scans_on p.limit p.setting p.input p given h (token_of c.in-Ok.token) c.yaml_parser_scan.new.parser c.is_last-last.result c.is_last-last.ensures c.in-Ok.ensures.answers).0

@@ -1,7 +1,7 @@
 use Rattle.std.proofs.Common.{List, ◌∷◌, [], ◌++◌, sym, subst}
 use Rattle.yaml_text.specs.Token.{token_of}
 use Rattle.yaml_scan.specs.Groups.{Token}
-use Rattle.yaml_scan.specs.inside.Queue.{ends_at, start_at}
+use Rattle.yaml_scan.specs.inside.Queue.{ends_at, starts_at}
 use Rattle.yaml_scan.specs.inside.Handed.{Gives, told_leads}
 use Rattle.yaml_scan.proofs.RunningQueue.GroupTokens.{gives_after, keyless_leads}
 use Rattle.yaml_scan.proofs.sink.give_keyless.Goals as goal
@@ -10,6 +10,6 @@ pub returns-in-Ok : goal.returns-in-Ok
 returns-in-Ok g c =
     let y = c.args.group in
     let m = y.token.start_mark in
-    let xs = ends_at y.ends m ++ start_at y.opens m in
+    let xs = ends_at y.ends m ++ starts_at y.opens m in
     subst (λ (ls : List Token). Gives (λ ts. g.S.yaml_token_sink_t.took c.args.sink.now ts c.give.new.sink) g.S.yaml_token_sink_t.may_refuse (told_leads ls ++ token_of y.token ∷ []) c.give.result) (sym (keyless_leads y c.requires.key))
     (gives_after g.S.yaml_token_sink_t.took g.met.S.yaml_token_sink_t.took_more c.args.sink.now c.give_blocks_of.new.sink c.give.new.sink _ (told_leads xs) (token_of y.token ∷ []) c.give.result c.in-Ok.ensures c.give.ensures)
