@@ -26,6 +26,7 @@ One line of output for each check; what is wrong is printed before it. The check
   name; and each definition in that column is in the file that is named before it. What an edit replaces stands once in its
   file.
 - lines: no line of the code or of a definition is longer than 120 characters.
+- parameters: docs/DECISIONS.md counts and names the functions that have more than four.
 - kits: README.md names the kit that `rt version` names, among those that the proofs were made with, in one place.
 - versions: the header, the program's definition, the Rust crate, the Python module and the newest entry of CHANGELOG.md have the version of VERSION; each
   entry there has a date, and none is of a day before the one below it.
@@ -53,6 +54,7 @@ from citing import statements
 from clauses import uncited
 from folders import MOST_FILES, long_folders, sentence, sources
 from laws import CRATES, laws, lemma_files, proof_pages
+from parameters import exceptions, long_lists
 from picture import drawn, unreached
 from repository import TOP, found, read
 from rules import files_in, front_and_sections, rules, tests_in
@@ -300,6 +302,17 @@ def check_lines():
     return count, wrong
 
 
+# PARAMETERS
+
+def check_parameters():
+    there = long_lists()
+    count, named = exceptions()
+    wrong = [f"docs/DECISIONS.md: {name} has more than four parameters" for name in there if name not in named]
+    if count != len(there):
+        wrong.append(f"docs/DECISIONS.md: {count} functions with more than four parameters are {len(there)}")
+    return len(there), wrong
+
+
 # KITS
 
 def check_kits():
@@ -410,7 +423,7 @@ def check_scripts():
 
 CHECKS = {"paths": check_paths, "rules": check_rules, "topics": check_topics,
           "laws and folders of proofs": check_proofs, "lemma files": check_lemmas, "edits": check_edits, "lines": check_lines,
-          "kits": check_kits, "versions": check_versions, "machines": check_machines, "crates of a user": check_crates,
+          "functions of many parameters": check_parameters, "kits": check_kits, "versions": check_versions, "machines": check_machines, "crates of a user": check_crates,
           "documents that are written": check_written, "folders": check_folders, "lines of the picture": check_picture,
           "files that the headline stands on": check_headline, "scripts": check_scripts}
 
