@@ -278,8 +278,9 @@ fn push_fed(out: &mut Vec<u8>, bytes: &[u8], n: usize) -> Result<bool, AllocErro
     let room = out.capacity() - old;
     if n < LINE && bytes.len() >= LINE && room >= LINE {
         out.extend_from_slice(&bytes[..LINE])?;
-        out[old + n] = b'\n';
-        out.truncate(old + n + 1);
+        let end = old + n;
+        out[end] = b'\n';
+        out.truncate(end + 1);
         return Ok(true);
     }
     if n < room {
