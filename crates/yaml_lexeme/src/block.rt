@@ -267,8 +267,9 @@ fn take_break(cursor: &mut cursor_t) -> Option<char>
     if n == 0 { None } else { Some(written(c)) }
 }
 
-/// Appends the first `n` bytes to `out`, and a line feed if both have room. Returns whether they have. If the bytes are
-/// few and there is room for more, a line of bytes is copied as one, and what is too much of it is cut off.
+/// Appends the first `n` bytes to `out`, and a line feed if both have room. Returns whether they have: no memory is
+/// requested for a line feed that may be taken back. If the bytes are few and there is room for more, a line of bytes
+/// is copied as one, and what is too much of it is cut off.
 #[inline(always)]
 fn push_fed(out: &mut Vec<u8>, bytes: &[u8], n: usize) -> Result<bool, AllocError>
     requires { n < length bytes.now }
@@ -292,8 +293,8 @@ fn push_fed(out: &mut Vec<u8>, bytes: &[u8], n: usize) -> Result<bool, AllocErro
     Ok(false)
 }
 
-/// Takes what is left of a line and its break, and appends the text to `out`. A line feed is appended with it if both
-/// have room. Returns whether it was, and the break as it is written.
+/// Takes what is left of a line and its break, and appends the text to `out`, and with it a line feed if that is the
+/// break and both have room. Returns whether it was appended, and the break as it is written.
 #[inline(always)]
 fn take_text(cursor: &mut cursor_t, out: &mut Vec<u8>) -> Result<(bool, Option<char>), AllocError>
     ensures text { IfOk result
@@ -312,7 +313,7 @@ fn take_text(cursor: &mut cursor_t, out: &mut Vec<u8>) -> Result<(bool, Option<c
     Ok((false, take_break(cursor)))
 }
 
-/// Takes a text line after its indentation, appends its text to `out`, and sets what is kept of it.
+/// Takes a text line after its indentation, appends its text to `out` as `take_text` does, and sets what is kept of it.
 #[inline(always)]
 fn take_line(
     cursor: &mut cursor_t,
@@ -354,7 +355,7 @@ fn push_unfed(out: &mut Vec<u8>, tail: &tail_t) -> Result<(), AllocError>
     push_lead(out, tail.lead)
 }
 
-/// Takes the line feed that was appended with the text of a line back, if one was.
+/// Takes back the line feed that was appended with the text of a line, if one was.
 #[inline(always)]
 fn cut_feed(out: &mut Vec<u8>, tail: &tail_t)
     requires { IsFed tail.now out.old.items }
@@ -365,7 +366,7 @@ fn cut_feed(out: &mut Vec<u8>, tail: &tail_t)
     }
 }
 
-/// Appends a space. Where a line feed was appended with the text of a line, it becomes that space.
+/// Appends a space. If a line feed was appended with the text of a line, it becomes that space.
 #[inline(always)]
 fn push_space(out: &mut Vec<u8>, tail: &tail_t) -> Result<(), AllocError>
     requires { IsFed tail.now out.old.items }

@@ -33,4 +33,4 @@ returns-in_err-put_stream_start c = λ X. let p = err_from_is_err_and c.from_res
 
 pub returns : goal.returns
 returns c = λ X. begins c.args.setting c.args.input.now (scanner_of X c.args.state.now) _ (c.requires X) c.in-Ok.ensures.front c.near_of-near.ensures.text (omega (arith, length-le-encodes c.in-Ok.front.0.chars, c.near_of-near.ensures.small)) c.in-Ok.ensures.refusal c.near_of-near.ensures.near
-    refl refl refl refl (subst (λ (e : yaml_encoding_t). IsQueue e c.put_stream_start.new.self.early c.put_stream_start.new.self.front c.put_stream_start.new.self.groups.items (StreamStart ∷ [])) c.encoding-encoding.ensures.is c.in_ok-put_stream_start.ensures.queue) c.in_ok-put_stream_start.ensures.long c.in_ok-put_stream_start.ensures.early c.in_ok-put_stream_start.ensures.done refl refl refl (sym c.near_start.ensures ∙ ap refusal_seen c.in_default.is)
+    refl refl refl refl (subst (λ (e : yaml_encoding_t). IsQueue e c.put_stream_start.new.self.early c.put_stream_start.new.self.early_mark c.put_stream_start.new.self.groups.items (StreamStart ∷ [])) c.encoding-encoding.ensures.is c.in_ok-put_stream_start.ensures.queue) c.in_ok-put_stream_start.ensures.long c.in_ok-put_stream_start.ensures.early c.in_ok-put_stream_start.ensures.done refl refl refl (sym c.near_start.ensures ∙ ap refusal_seen c.in_default.is)
