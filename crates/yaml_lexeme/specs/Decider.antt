@@ -1,4 +1,4 @@
--- What is right after a scalar and decides whether that is a key.
+-- What is right after a lexeme that may be a key, and decides whether it is one.
 use Rattle.std.specs.Prelude.{◌≡◌, Bool, ◌+◌, true, false}
 use Rattle.yaml_lexeme.specs.Place.{Place}
 use Rattle.yaml_lexeme.specs.Gap.{gap}
@@ -10,7 +10,7 @@ use Rattle.yaml_text.specs.declared.types.yaml_mark_t.{yaml_mark_t}
 abbrev pub IsGap : Place → Place → Bool → Type 0
 IsGap p q broken = (flow allowed : Bool) → gap flow allowed p ≡ (q, broken)
 
--- what may decide, right after a scalar, whether that is a key: a `:`, and in flow a `,`, `]` or `}`
+-- what may decide, right after a lexeme, whether that is a key: a `:`, and in flow a `,`, `]` or `}`
 abbrev pub decides : Bool → yaml_lexeme_kind_t → Bool
 decides flow kind.VALUE = true
 decides flow kind.FLOW_ENTRY = flow
