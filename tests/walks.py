@@ -7,8 +7,8 @@ A rule is a heading of docs/RULES.md. A walk has four hops, each to what the lin
 - code: for each of these names the contract of a function in one of the code files cites it. If none does, the line has a part
   "Through" with words that a contract cites: they are made of the name, or a lemma of a file there is about both. Each code file
   that has functions has such a function.
-- proof: the places are there; in them is the folder of a function of the hop before, or a file with a lemma about a name. If the
-  line says "none by hand", there is no such folder.
+- proof: the places are there; in them is the folder of a function of the hop before, or a file with a lemma about a name. The
+  folders of proofs of the functions that the clauses name are in them. If the line says "none by hand", there is no such folder.
 - test: the functions are there and are tests, and so are the files of rows. If the row of a must-fail edit has one of the
   names, or an edit changes a function of the walk, the walk tells the first such edit too.
 
@@ -26,6 +26,7 @@ import sys
 sys.path.insert(0, os.path.join(os.path.dirname(os.path.abspath(__file__)), "lib"))
 sys.dont_write_bytecode = True
 from citing import changed, contracts, file_of, leads_to, lemmas, statements
+from clauses import clause_of
 from commands import load_dev
 from repository import found, read
 from rules import files_in, places_in, rules, tests_in
@@ -120,7 +121,18 @@ class Walk:
         inside = [file for place in places for file in ([place] if place.endswith(".antt") else found(f"{place}**/*.antt"))]
         about += [file for file in inside if any(self.words & named for named in lemmas(file).values())]
         need(about, f"nothing in {short(places)} is about the definition or a function that cites it")
+        left = [folder for folder in self.of_clauses() if not any(folder.startswith(place) for place in places)]
+        need(not left, f"{', '.join(left)} is not named")
         return about[0].partition("/proofs/")[2]
+
+    def of_clauses(self):
+        """The folders of proofs of the functions that the clauses of the rule name."""
+        for path, names in files_in(self.parts["Definition"]):
+            for name in names:
+                _, function, _ = clause_of(self.parts, (*file_of(path), name)) or (None, None, None)
+                for code in {code for code, known in self.functions if known == function}:
+                    topic = code.replace("/src/", "/proofs/")[: -len(".rt")]
+                    yield from found(f"{topic}/{function}") + found(f"{topic}/*/{function}")
 
     def edits(self):
         """The must-fail edits whose row names a definition of the walk, or that change a function of it."""

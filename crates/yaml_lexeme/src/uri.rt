@@ -76,7 +76,7 @@ fn take_next_octets(
     Ok(())
 }
 
-/// Takes the octets that spell a character, and appends them to `out`.
+/// Takes a lead octet and as many later ones as it asks for, each as an escape, and appends them to `out`.
 fn take_uri_escape(cursor: &mut cursor_t, out: &mut Vec<u8>) -> Result<(), yaml_refusal_t>
     ensures { Appends (λ cs. cs) result out.old.items out.new.items cursor.new (spec.uri_escape cursor.old) }
 {
