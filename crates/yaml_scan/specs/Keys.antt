@@ -1,4 +1,4 @@
--- Simple keys: the candidate of each depth, and how long it is live (YAML 1.1, 10.2 Mappings).
+-- Simple keys: the candidate of each depth, and how long it is live (YAML 1.1, 10.2 Mapping Styles).
 use Rattle.std.specs.Prelude.{ℕ, ◌+◌, Bool, not, ◌&&◌, List, [], ◌∷◌, find, nat_eq, nat_le, Option, Some, None}
 use Rattle.std.specs.Prelude.{if◌then◌else◌}
 use Rattle.yaml_text.specs.declared.types.yaml_mark_t.{yaml_mark_t}

@@ -1,4 +1,4 @@
-//! Simple keys: the candidate of each flow depth, which a `:` may yet make a key (YAML 1.1, 10.2 Mappings, simple
+//! Simple keys: the candidate of each flow depth, which a `:` may yet make a key (YAML 1.1, 10.2 Mapping Styles, simple
 //! keys). The slots, and what is kept of a candidate, are types of `depth`.
 ghost use Rattle.std.specs.Prelude.{◌≡◌, ◌+◌, ◌-◌, ◌<◌, ◌&&◌, ◌++◌, ◌∷◌, [], Option, None, map, vec_len};
 ghost use Rattle.std.specs.Prelude.{length, nat_lt, true};
