@@ -204,7 +204,7 @@ impl queue_t {
         });
     }
 
-    /// Puts a token that is a group alone at the end, where there is room.
+    /// Puts a token that is a group alone at the end, for which there is room.
     #[inline(always)]
     pub(crate) fn push_alone(&mut self, token: yaml_token_t)
         requires { length self.old.groups.items < deque_capacity self.old.groups }

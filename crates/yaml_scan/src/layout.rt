@@ -260,9 +260,8 @@ fn check_reach(
     Ok(())
 }
 
-/// Ends a step with a lexeme that was read: one character, a document marker
-/// or the stream end. What comes right after it is not asked
-/// for. Stops if it is near the reader's fault, or a candidate is lost.
+/// Ends a step with a lexeme that was read: one character, a document marker or the stream end. What comes right after
+/// it is not asked for. Stops if it is near the reader's fault, or a candidate is lost.
 #[inline(always)]
 pub(crate) fn end_character<const DIRECT: bool, S: yaml_token_sink_t>(
     text: &yaml_text_t,
