@@ -22,9 +22,9 @@ ghost use Rattle.yaml_scan.specs.Groups.Token.{BlockEnd};
 ghost use Rattle.yaml_scan.specs.Kind.{is_flow_start, is_stream_end, is_candidate_kind, is_value};
 ghost use Rattle.yaml_scan.specs.Levels.{stays};
 ghost use Rattle.yaml_scan.specs.inside.Scanner.{scanner_of};
-ghost use Rattle.yaml_scan.specs.inside.Scanning.{CanLayAll, IsDecided, IsUndecided, LaysTwo, groups_in, Waits};
+ghost use Rattle.yaml_scan.specs.inside.Scanning.{CanLayAll, IsUndecided, LaysTwo, groups_in, Waits};
 ghost use Rattle.yaml_scan.specs.inside.Scanning.{IsFollower, IsFollowed};
-ghost use Rattle.yaml_scan.specs.inside.Slots.{nested_outer, nested_top, Held, is_live};
+ghost use Rattle.yaml_scan.specs.inside.Slots.{Held, is_live};
 
 use crate::allowed::is_allowed_after;
 use crate::depth::{is_flow_start, slots_t};
@@ -272,24 +272,6 @@ fn lay_levels(levels: &mut Vec<u64>, step: step_t, key: bool, waits: bool) -> (u
     }
 }
 
-/// Leaves the candidate of the depth behind at what comes right after it, which may be a flow end, and is no flow
-/// start. If they do not wait, it was the only candidate.
-#[inline(always)]
-fn drop_candidate(slots: &mut slots_t, kind: yaml_lexeme_kind_t, waits: bool)
-    requires { is_flow_start kind ≡ false }
-    ensures outer { slots.new.outer.items ≡ nested_outer kind slots.old.outer.items None }
-    ensures top { slots.new.top ≡ nested_top kind slots.old.outer.items None }
-    ensures empty { slots.new.empty_below ≡ (if waits then slots.old.empty_below else vec_len slots.new.outer) }
-    ensures awaited { slots.new.awaited ≡ (if waits then slots.old.awaited else 0) }
-{
-    slots.top = None;
-    slots.nest(kind);
-    if !waits {
-        slots.empty_below = slots.outer.len();
-        slots.awaited = 0;
-    }
-}
-
 /// Lays the lexeme of a step, which was read to a mark, and what comes right after it. Both wait, or the first is a
 /// candidate, for which the second decides. If they wait, they are in flow, where no level ends and none begins.
 #[inline(always)]
@@ -321,7 +303,7 @@ fn lay_both<const WAITS: bool>(
     let kind = decider.kind;
     let key = is_key(step, WAITS, kind);
     let (ends, opens) = lay_levels(&mut state.layout.levels, step, key, WAITS);
-    drop_candidate(&mut state.slots, kind, WAITS);
+    state.slots.drop_candidate(kind, WAITS);
     state.allowed = is_allowed_after(kind, step.in_flow, !key, false);
     state.reach = decider.lexeme.reach;
     (ends, opens, key)

@@ -1,7 +1,7 @@
 //! Simple keys: the candidate of each flow depth, which a `:` may yet make a key (YAML 1.1, 10.2 Mapping Styles, simple
 //! keys). The slots, and what is kept of a candidate, are types of `depth`.
 ghost use Rattle.std.specs.Prelude.{◌≡◌, ◌+◌, ◌-◌, ◌<◌, ◌&&◌, ◌++◌, ◌∷◌, [], Option, None, map, vec_len};
-ghost use Rattle.std.specs.Prelude.{length, nat_lt, true};
+ghost use Rattle.std.specs.Prelude.{false, if◌then◌else◌, length, nat_lt, true};
 ghost use Rattle.yaml_scan.specs.Kind.{is_flow_start};
 ghost use Rattle.std.specs.Option.{is_some};
 ghost use Rattle.std.specs.Vec.{vec_capacity};
@@ -259,7 +259,7 @@ impl slots_t {
     /// Moves on after the lexeme of a step: gives up what is stale at a mark, and changes the depth. There is room for
     /// the one that it enters.
     #[inline(always)]
-    pub(crate) fn move_on(&mut self, step: step_t, limit: u64, mark: yaml_mark_t)
+    fn move_on(&mut self, step: step_t, limit: u64, mark: yaml_mark_t)
         requires flow { step.in_flow ≡ nat_lt 0 (vec_len self.old.outer) }
         requires empty { self.old.empty_below ≡ empty_slots self.old.outer.items }
         requires nested { AreNested self.old.outer.items }
@@ -287,5 +287,43 @@ impl slots_t {
         };
         self.awaited = held_step(lowest(&self.outer, empty, self.top));
         self.empty_below = empty;
+    }
+    /// Changes the candidates after the lexeme of a step, which was read to a mark. There is room for the depth that it
+    /// enters.
+    #[inline(always)]
+    pub(crate) fn keep_candidates(&mut self, step: step_t, limit: u64, mark: yaml_mark_t)
+        requires flow { step.in_flow ≡ nat_lt 0 (vec_len self.old.outer) }
+        requires empty { self.old.empty_below ≡ empty_slots self.old.outer.items }
+        requires nested { AreNested self.old.outer.items }
+        requires room { is_flow_start step.kind ≡ true → vec_len self.old.outer < vec_capacity self.old.outer }
+        ensures outer { self.new.outer.items
+            ≡ nested_outer step.kind (map (still_held limit mark) self.old.outer.items)
+            (still_held limit mark (slot_after step.kind step.allowed step.new self.old.top)) }
+        ensures top { self.new.top
+            ≡ nested_top step.kind (map (still_held limit mark) self.old.outer.items)
+            (still_held limit mark (slot_after step.kind step.allowed step.new self.old.top)) }
+        ensures empty { self.new.empty_below ≡ empty_slots self.new.outer.items }
+        ensures awaited { self.new.awaited ≡ held_step (lowest (self.new.outer.items ++ self.new.top ∷ [])) }
+    {
+        change_slot(&mut self.top, step.kind, step.allowed, step.new);
+        self.move_on(step, limit, mark);
+    }
+
+    /// Leaves the candidate of the depth behind at what comes right after it, which may be a flow end, and is no flow
+    /// start. If they do not wait, it was the only candidate.
+    #[inline(always)]
+    pub(crate) fn drop_candidate(&mut self, kind: yaml_lexeme_kind_t, waits: bool)
+        requires { is_flow_start kind ≡ false }
+        ensures outer { self.new.outer.items ≡ nested_outer kind self.old.outer.items None }
+        ensures top { self.new.top ≡ nested_top kind self.old.outer.items None }
+        ensures empty { self.new.empty_below ≡ (if waits then self.old.empty_below else vec_len self.new.outer) }
+        ensures awaited { self.new.awaited ≡ (if waits then self.old.awaited else 0) }
+    {
+        self.top = None;
+        self.nest(kind);
+        if !waits {
+            self.empty_below = self.outer.len();
+            self.awaited = 0;
+        }
     }
 }

@@ -1,7 +1,6 @@
 //! The layout: of a lexeme that was read it makes a group, which is handed on, unless the step has to stop.
-ghost use Rattle.std.specs.Prelude.{◌≡◌, ◌<◌, ◌++◌, ◌∷◌, List, [], true, false, length, map, nat_lt, vec_len, ℕ, ◌≤◌};
+ghost use Rattle.std.specs.Prelude.{◌≡◌, ◌<◌, ◌++◌, ◌∷◌, List, [], false, length, ℕ, ◌≤◌};
 ghost use Rattle.std.specs.Prelude.{◌||◌, not, IfOk, MatchResult, None, OnOk};
-ghost use Rattle.std.specs.Vec.{vec_capacity};
 ghost use Rattle.std.specs.VecDeque.{deque_capacity};
 ghost use Rattle.yaml_text.specs.declared.token.yaml_token_t.{yaml_token_t as code_token_t};
 ghost use Rattle.yaml_text.specs.declared.types.yaml_mark_t.{yaml_mark_t};
@@ -10,24 +9,21 @@ ghost use Rattle.yaml_text.specs.Text.{Text};
 ghost use Rattle.yaml_lexeme.specs.Lexeme.{Lexeme};
 ghost use Rattle.yaml_lexeme.specs.LexemeOf.{lexeme_of};
 ghost use Rattle.yaml_lexeme.specs.Counted.{IsMarkOf};
-ghost use Rattle.yaml_scan.specs.Kind.{is_flow_start, is_stream_end};
+ghost use Rattle.yaml_scan.specs.Kind.{is_stream_end};
 ghost use Rattle.yaml_scan.specs.Laid.{Laid};
 ghost use Rattle.yaml_scan.specs.inside.Handed.{IsLaidAs, IsReadTo, IsTokenOf, group_with, read_to, FindsRoom};
 ghost use Rattle.yaml_scan.specs.inside.Handed.{IsLaidAlone, LaysTo, StepsTo, WasLaid, group_tokens};
 ghost use Rattle.yaml_scan.specs.inside.Scanner.{scanner_of, Scanner};
 ghost use Rattle.yaml_scan.specs.inside.Scanning.{CanPut, HasRoom, groups_in, met_in, CanLayAll, CanRead, IsReadIn};
 ghost use Rattle.yaml_scan.specs.inside.Scanning.{IsStep, Refuses};
-ghost use Rattle.yaml_scan.specs.inside.Slots.{AreNested, empty_slots, lowest, nested_outer, nested_top, slot_after};
-ghost use Rattle.yaml_scan.specs.inside.Slots.{held_step, still_held};
 ghost use Rattle.yaml_scan.specs.Sink.{said_len};
 ghost use Rattle.yaml_scan.specs.declared.groups.group_t.{group_t};
 ghost use Rattle.yaml_scan.specs.inside.TextReads.{IsRead};
 
 use crate::allowed::is_allowed_after;
-use crate::depth::slots_t;
 use crate::follower::{follower_of, lay_followed};
 use crate::groups::{block_t, group_t};
-use crate::keys::{change_slot, completed_by, is_lost};
+use crate::keys::{completed_by, is_lost};
 use crate::kind::{is_stream_end, step_t};
 use crate::levels::close_levels;
 use crate::scanner::state_t;
@@ -53,27 +49,6 @@ pub(crate) fn token_of(start: yaml_mark_t, lexeme: yaml_lexeme_t) -> yaml_token_
         start_mark: start,
         end_mark: lexeme.end_mark,
     }
-}
-
-/// Changes the candidates after the lexeme of a step, which was read to a mark. There is room for the depth that it
-/// enters.
-#[inline(always)]
-fn keep_candidates(slots: &mut slots_t, step: step_t, limit: u64, mark: yaml_mark_t)
-    requires flow { step.in_flow ≡ nat_lt 0 (vec_len slots.old.outer) }
-    requires empty { slots.old.empty_below ≡ empty_slots slots.old.outer.items }
-    requires nested { AreNested slots.old.outer.items }
-    requires room { is_flow_start step.kind ≡ true → vec_len slots.old.outer < vec_capacity slots.old.outer }
-    ensures outer { slots.new.outer.items
-        ≡ nested_outer step.kind (map (still_held limit mark) slots.old.outer.items)
-        (still_held limit mark (slot_after step.kind step.allowed step.new slots.old.top)) }
-    ensures top { slots.new.top
-        ≡ nested_top step.kind (map (still_held limit mark) slots.old.outer.items)
-        (still_held limit mark (slot_after step.kind step.allowed step.new slots.old.top)) }
-    ensures empty { slots.new.empty_below ≡ empty_slots slots.new.outer.items }
-    ensures awaited { slots.new.awaited ≡ held_step (lowest (slots.new.outer.items ++ slots.new.top ∷ [])) }
-{
-    change_slot(&mut slots.top, step.kind, step.allowed, step.new);
-    slots.move_on(step, limit, mark);
 }
 
 /// Lays the lexeme of a step, which was read to a mark: changes levels and candidates, and marks the group that it
@@ -105,7 +80,7 @@ pub(crate) fn lay_lexeme(
     let start = step.new.start;
     let closed = close_levels(&mut state.layout.levels, step, gap_end);
     let completed = completed_by(kind, state.slots.top, state.limit, start);
-    keep_candidates(&mut state.slots, step, state.limit, reach);
+    state.slots.keep_candidates(step, state.limit, reach);
     let opens = state.layout.put_key(step, completed);
     state.layout.queue.keep_early(closed.early, gap_end);
     state.allowed = is_allowed_after(kind, step.in_flow, completed.is_none(), passed_break);

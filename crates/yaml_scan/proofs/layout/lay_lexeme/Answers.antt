@@ -33,7 +33,7 @@ returns-clause-laid g c = λ X d b e t p T.
     let y = c.keep_early.ensures in
     let new : group_t = record { ends = c.close_levels-closed.result.ends; opens = c.put_key-opens.result; key = false; token = t } in
     let same_groups : c.keep_early.new.self.groups.items ≡ c.put_key-opens.new.self.queue.groups.items = ap (λ (q : VecDeque group_t Global). q.items) y.groups in
-    put_advances g.before (scanner_of X c.args.state.now) (groups_in (scanner_of X c.args.state.now)) (met_in (scanner_of X c.args.state.now) c.args.step) c.args.step.in_flow c.args.step.new (read_to d b e c.args.reach c.args.passed_break) p c.keep_candidates.new.slots c.is_allowed_after-state.result
+    put_advances g.before (scanner_of X c.args.state.now) (groups_in (scanner_of X c.args.state.now)) (met_in (scanner_of X c.args.state.now) c.args.step) c.args.step.in_flow c.args.step.new (read_to d b e c.args.reach c.args.passed_break) p c.keep_candidates.new.self c.is_allowed_after-state.result
     record { levels = c.put_key-opens.new.self.levels; queue = c.keep_early.new.self } (c.keep_early.new.self.groups.items ++ new ∷ []) record {
       left = c.close_levels-closed.new.levels.items;
       left_is = c.close_levels-closed.ensures.levels;
