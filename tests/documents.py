@@ -29,7 +29,7 @@ One line of output for each check; what is wrong is printed before it. The check
 - parameters: docs/DECISIONS.md counts and names the functions that have more than four.
 - kits: README.md names the kit that `rt version` names, among those that the proofs were made with, in one place.
 - versions: the header, the program's definition, the Rust crate, the Python module and the newest entry of CHANGELOG.md have the version of VERSION; each
-  entry there has a date, and none is of a day before the one below it. The Python module looks for the library of its first number.
+  entry there has a date, and none is of a day before the one below it. The Python module looks for the library of its major version.
 - machines: where a document says x86-64, it says x86-64-v2, which is what the kit compiles for.
 - crates: docs/RATTLE.md has the lines of crates.txt of all crates that its own crate needs.
 - folders: a folder with more than eight files has a README.md, but for the folders within proofs. Each file in such a table begins
@@ -340,7 +340,7 @@ def check_versions():
     wrong = [f"{path}: the version is not {version}" for path, word in said.items() if not word or word[1] != version]
     library = re.search(r'^NAMES = \("libbogzhami\.so\.(\d+)"', read("python/bogzhami/library.py"), re.M)
     if not library or library[1] != version.split(".")[0]:
-        wrong.append(f"python/bogzhami/library.py: NAMES has not the first number of {version}")
+        wrong.append(f"python/bogzhami/library.py: NAMES does not have the major version of {version}")
     headings = re.findall(r"^## (.*)$", read("CHANGELOG.md"), re.M)
     dates = re.findall(r"^## \d+\.\d+\.\d+, (\d{4}-\d\d-\d\d)$", read("CHANGELOG.md"), re.M)
     if len(dates) != len(headings) or dates != sorted(dates, reverse=True):

@@ -288,6 +288,7 @@ impl slots_t {
         self.awaited = held_step(lowest(&self.outer, empty, self.top));
         self.empty_below = empty;
     }
+
     /// Changes the candidates after the lexeme of a step, which was read to a mark. There is room for the depth that it
     /// enters.
     #[inline(always)]
