@@ -56,7 +56,7 @@ from folders import MOST_FILES, long_folders, sentence, sources
 from laws import CRATES, laws, lemma_files, proof_pages
 from parameters import exceptions, long_lists
 from picture import drawn, unreached
-from repository import TOP, found, read
+from repository import TOP, edit_file, edit_name, found, read
 from rules import files_in, front_and_sections, rules, tests_in
 from written import stale, written
 
@@ -236,16 +236,16 @@ def refused_by_none(path, names):
 def check_edits():
     code = set(re.findall(r"\bfn (\w+)", "".join(read(path) for path in found("crates/*/src/**/*.rt"))))
     edits = {f"wrong/{name}" for name in names_of("tests/wrong/*.edit")}
-    for path in found("crates/*/must-fail/*.edit"):
-        edits.add(f"{path.split('/')[1]}/{os.path.basename(path)[:-len('.edit')]}")
+    numbered = found("crates/*/must-fail/*.edit")
+    edits |= {f"{path.split('/')[1]}/{edit_name(path)}" for path in numbered}
     lines = {line.split("\t")[0] for line in read("tests/edits.txt").split("\n") if line and not line.startswith("#")}
     wrong = [f"edits.txt: {name} is missing" for name in sorted(edits - lines)]
     wrong += [f"edits.txt: {name} is gone" for name in sorted(lines - edits)]
+    wrong += [f"{path}: no number of three digits is in front" for path in numbered if not re.search(r"/[0-9]{3}-\w+\.edit$", path)]
     for line in read("tests/twins.txt").split("\n"):
         name, *texts = line.split("\t")
         if line and not line.startswith("#"):
-            path = f"crates/{name.replace('/', '/must-fail/')}.edit"
-            count = len(re.findall(r"(?m)^new: ", read(path))) if name in edits else 0
+            count = len(re.findall(r"(?m)^new: ", read(edit_file(name)))) if name in edits else 0
             wrong += [f"twins.txt: {name} replaces {count} texts, not {len(texts)}"] if count != len(texts) else []
     for folder in found("crates/*/must-fail"):
         crate, path = folder.split("/")[1], f"{folder}/README.md"

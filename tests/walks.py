@@ -28,7 +28,7 @@ sys.dont_write_bytecode = True
 from citing import changed, contracts, file_of, leads_to, lemmas, statements
 from clauses import clause_of
 from commands import load_dev
-from repository import found, read
+from repository import edit_file, found, read
 from rules import files_in, places_in, rules, tests_in
 
 CHOSEN = 10
@@ -54,7 +54,7 @@ def edits():
     found_here = []
     for crate, _, name in (edit.partition("/") for edit in dev.edits() if not edit.startswith("wrong/")):
         told = set(re.findall(r"`([^`\s]+)`", dev.row_of(crate, name).partition("Refused by: ")[2]))
-        found_here.append((name, told, set(changed(f"crates/{crate}/must-fail/{name}.edit"))))
+        found_here.append((name, told, set(changed(edit_file(f"{crate}/{name}")))))
     return found_here
 
 

@@ -17,7 +17,7 @@ NOTES = {
     "order in which to read them, with their lines; all others may be skipped.\n\n",
 }
 # What a file has that begins with no comment.
-NAMELESS = {"Lib.antt": "The list of the modules.", "tests.rt": "Tests of the crate.", "class_tests.rt": "Tests of the classes of characters."}
+NAMELESS = {"Lib.antt": "The list of the modules.", "tests.rt": "Tests of the crate."}
 
 
 def sources(folder):

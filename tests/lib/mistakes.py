@@ -15,7 +15,7 @@ import os
 import re
 import shutil
 
-from repository import TOP
+from repository import TOP, edit_file
 
 CALLS = os.path.join(TOP, "tests", "by_hand", "calls")
 NUMBER_IN_C = r"""#include <stdio.h>
@@ -76,9 +76,8 @@ def copy_sources(room, left_out=("out", "must-fail")):
 
 def pairs_of(name):
     """The texts that an edit replaces: the file, what stands there, and what the edit puts in its place."""
-    crate, edit = name.split("/")
-    pairs, folder = [], "tests/wrong" if crate == "wrong" else f"crates/{crate}/must-fail"
-    for line in read(os.path.join(TOP, folder, edit + ".edit")).split("\n"):
+    crate, pairs = name.split("/")[0], []
+    for line in read(os.path.join(TOP, edit_file(name))).split("\n"):
         key, _, value = line.partition(": ")
         if key == "crate":
             crate = value
@@ -186,7 +185,7 @@ def add_number(room):
 def add_calls(room, crate, module):
     """Puts the calls of by_hand/calls, which are tests that only wrong programs are run by, into a module of a copy."""
     path = os.path.join(room, "crates", crate, "src", module + ".rt")
-    write(path, read(path) + "\n" + read(os.path.join(CALLS, crate + ".txt")))
+    write(path, read(path) + "\n" + read(os.path.join(CALLS, crate, module + ".txt")))
 
 
 def ask_tests(room, crate, asked):

@@ -2,6 +2,7 @@
 
 import glob
 import os
+import re
 
 TOP = os.path.dirname(os.path.dirname(os.path.dirname(os.path.abspath(__file__))))
 
@@ -14,6 +15,18 @@ def read(path):
 def found(pattern):
     """The files and folders of a pattern."""
     return sorted(os.path.relpath(path, TOP) for path in glob.glob(os.path.join(TOP, pattern), recursive=True))
+
+
+def edit_name(path):
+    """The name of an edit: that of its file, without the number in front, which says when the gate tries it."""
+    return re.sub(r"^[0-9]+-", "", os.path.basename(path)[: -len(".edit")])
+
+
+def edit_file(name):
+    """The file of the edit CRATE/NAME, or of wrong/NAME, a mistake that no contract excludes."""
+    crate, _, edit = name.partition("/")
+    folder = "tests/wrong" if crate == "wrong" else f"crates/{crate}/must-fail"
+    return next(path for path in found(f"{folder}/*.edit") if edit_name(path) == edit)
 
 
 def between(text, begin, lines, end):

@@ -4,19 +4,13 @@
 mod ascii;
 mod blocks;
 mod chars;
-#[cfg(test)]
-mod class_tests;
 mod classes;
 mod decode;
-#[cfg(test)]
-mod enum_tests;
 mod fault;
 mod kept;
 pub mod laws;
 mod mark;
 mod offence;
-#[cfg(test)]
-mod tests;
 mod text;
 mod token;
 mod types;

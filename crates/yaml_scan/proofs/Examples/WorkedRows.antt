@@ -8,7 +8,7 @@ use Rattle.yaml_text.specs.declared.types.yaml_error_type_t.TheVariants.{YAML_RE
 use Rattle.yaml_text.specs.declared.types.yaml_scalar_style_t.TheVariants.{YAML_PLAIN_SCALAR_STYLE, YAML_DOUBLE_QUOTED_SCALAR_STYLE}
 use Rattle.yaml_text.specs.Token.{TokenData as token}
 use Rattle.yaml_scan.specs.inside.StepParts.{read_step}
-use Rattle.yaml_scan.specs.Course.{next, course}
+use Rattle.yaml_scan.specs.Course.{next, course, oldest}
 use Rattle.yaml_scan.specs.Kind.{Kind}
 use Rattle.yaml_lexeme.specs.declared.kind.yaml_lexeme_kind_t.TheVariants.{STREAM_END, FLOW_SEQUENCE_START, FLOW_MAPPING_START, FLOW_SEQUENCE_END, FLOW_MAPPING_END, FLOW_ENTRY, BLOCK_ENTRY, KEY, VALUE, ANCHOR, TAG, DOUBLE_QUOTED, PLAIN}
 use Rattle.yaml_scan.specs.Token.{yaml_token_t, unnamed_yaml_token_t_data, zero_mark, at_mark, empty}
@@ -25,6 +25,7 @@ use Rattle.yaml_scan.specs.Answers.{Answers, answers}
 use Rattle.yaml_scan.specs.Session.{Call, Answer}
 use Rattle.yaml_scan.specs.Sessions.{new_session, session, after_all, session_queued, session_reach}
 use Rattle.yaml_scan.specs.Settled.{least, steps_for, pace}
+use Rattle.yaml_scan.specs.inside.Slots.{outer_to, empty_slots}
 use Rattle.yaml_scan.specs.Session.Call.{SCAN, PEEK, SKIP}
 use Rattle.yaml_scan.specs.Session.Answer.{TOKEN, PEEKED, SKIPPED, NOTHING, FAULT}
 
@@ -804,3 +805,30 @@ one_more_than_the_limit : seen 4 6 []
     ≡ (5, m 5 0 5)
 unfolding seen
 one_more_than_the_limit = refl
+
+-- `["x\ny", z: w]`: how many of the lowest slots are empty after so many lexemes, in the flow collection
+counter : ℕ → ℕ
+unfolding course next step read_step required stale refused clears laid level staying_columns open_columns still_open opens is_completed completed_by candidate allowed depth
+counter n = empty_slots (outer_to 1024 (oldest n (course 1024 (record {
+  encoding = YAML_UTF8_ENCODING;
+  source = source 13 (4 ∷ [])
+      (Lexed 0 0 FLOW_SEQUENCE_START token.FLOW_SEQUENCE_START 1 1 false
+      ∷ Lexed 1 1 DOUBLE_QUOTED (token.SCALAR (120 ∷ 32 ∷ 121 ∷ []) YAML_DOUBLE_QUOTED_SCALAR_STYLE) 6 6 false
+      ∷ Lexed 6 6 FLOW_ENTRY token.FLOW_ENTRY 7 7 false
+      ∷ Lexed 7 8 PLAIN (token.SCALAR (122 ∷ []) YAML_PLAIN_SCALAR_STYLE) 9 9 false
+      ∷ Lexed 9 9 VALUE token.VALUE 10 10 false
+      ∷ Lexed 10 11 PLAIN (token.SCALAR (119 ∷ []) YAML_PLAIN_SCALAR_STYLE) 12 12 false
+      ∷ Lexed 12 12 FLOW_SEQUENCE_END token.FLOW_SEQUENCE_END 13 13 false
+      ∷ Ends 13 13 ∷ []);
+  refusal = None;
+})).read) 1)
+
+-- the lowest slot is that of `[`
+counter_is_below_a_live_slot : counter 1 ≡ 0
+unfolding counter
+counter_is_below_a_live_slot = refl
+
+-- which is no key any more after the line break: so the counter rises past it
+counter_rises_past_a_stale_slot : counter 2 ≡ 1
+unfolding counter
+counter_rises_past_a_stale_slot = refl

@@ -1,9 +1,27 @@
 //! The numbers and the order of the variants of the enums, and the words of errors and faults.
-use super::*;
-use crate::fault::make_memory_fault;
 use std::hash::{DefaultHasher, Hash, Hasher};
 use std::process::Abort;
 use std::test::Fail;
+use yaml_text::{
+    yaml_break_t, yaml_encoding_t, yaml_error_type_t, yaml_fault_t, yaml_mapping_style_t,
+    yaml_mark_t, yaml_scalar_style_t, yaml_sequence_style_t, yaml_token_type_t,
+};
+
+const FRONT: yaml_mark_t = yaml_mark_t {
+    index: 0,
+    line: 0,
+    column: 0,
+};
+
+const MEMORY_FAULT: yaml_fault_t = yaml_fault_t {
+    error: yaml_error_type_t::YAML_MEMORY_ERROR,
+    problem: None,
+    problem_offset: 0,
+    problem_value: 0,
+    problem_mark: FRONT,
+    context: None,
+    context_mark: FRONT,
+};
 
 fn hash_of<T: Hash>(value: &T) -> u64 {
     let mut hasher = DefaultHasher::new();
@@ -168,7 +186,7 @@ fn words(rt: HostRuntime) -> Result<(), Fail> {
         assert_eq!(rt; error.to_string(alloc)?.as_str(), word);
         let fault = yaml_fault_t {
             error,
-            ..make_memory_fault()
+            ..MEMORY_FAULT
         };
         let words = format!(in alloc; "YAML {word} fault")?;
         assert_eq!(rt; fault.to_string(alloc)?.as_str(), words.as_str());

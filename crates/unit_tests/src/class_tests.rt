@@ -1,5 +1,8 @@
-use super::*;
-use std::test::Fail;
+//! The classes of characters.
+use yaml_text::{
+    AS_DIGIT, AS_HEX, IS_ALPHA, IS_ASCII, IS_BLANK, IS_BLANKZ, IS_BOM, IS_BREAK, IS_BREAKZ,
+    IS_CRLF, IS_DIGIT, IS_HEX, IS_PRINTABLE, IS_SPACE, IS_TAB, IS_Z, WIDTH,
+};
 
 /// How many texts of one byte a class holds for, and the sum of those bytes.
 fn of_one<F: Fn(&[u8], usize) -> bool>(class: &F) -> (u64, u64)
@@ -55,33 +58,60 @@ fn tallies<F: Fn(&[u8], usize) -> bool>(class: F) -> [(u64, u64); 3]
 // The numbers are counted by the tables as they are written down, in another language.
 #[test]
 fn class_tables(rt: HostRuntime) {
-    assert_eq!(rt; tallies(IS_ALPHA), [(64, 5527), (16384, 364306432), (0, 0)]);
-    assert_eq!(rt; tallies(IS_DIGIT), [(10, 525), (2560, 34732800), (0, 0)]);
-    assert_eq!(rt; tallies(IS_HEX), [(22, 1527), (5632, 100791552), (0, 0)]);
     assert_eq!(rt;
-        tallies(IS_ASCII),
+        tallies(|bytes, at| IS_ALPHA(bytes, at)),
+        [(64, 5527), (16384, 364306432), (0, 0)]
+    );
+    assert_eq!(rt;
+        tallies(|bytes, at| IS_DIGIT(bytes, at)),
+        [(10, 525), (2560, 34732800), (0, 0)]
+    );
+    assert_eq!(rt;
+        tallies(|bytes, at| IS_HEX(bytes, at)),
+        [(22, 1527), (5632, 100791552), (0, 0)]
+    );
+    assert_eq!(rt;
+        tallies(|bytes, at| IS_ASCII(bytes, at)),
         [(128, 8128), (32768, 536854528), (0, 0)]
     );
     assert_eq!(rt;
-        tallies(IS_PRINTABLE),
+        tallies(|bytes, at| IS_PRINTABLE(bytes, at)),
         [(146, 18490), (37312, 1212276512), (180221, 2742960481476)]
     );
-    assert_eq!(rt; tallies(IS_Z), [(1, 0), (256, 32640), (0, 0)]);
-    assert_eq!(rt; tallies(IS_BOM), [(0, 0), (0, 0), (1, 15711167)]);
-    assert_eq!(rt; tallies(IS_SPACE), [(1, 32), (256, 2129792), (0, 0)]);
-    assert_eq!(rt; tallies(IS_TAB), [(1, 9), (256, 622464), (0, 0)]);
-    assert_eq!(rt; tallies(IS_BLANK), [(2, 41), (512, 2752256), (0, 0)]);
     assert_eq!(rt;
-        tallies(IS_BREAK),
+        tallies(|bytes, at| IS_Z(bytes, at)),
+        [(1, 0), (256, 32640), (0, 0)]
+    );
+    assert_eq!(rt;
+        tallies(|bytes, at| IS_BOM(bytes, at)),
+        [(0, 0), (0, 0), (1, 15711167)]
+    );
+    assert_eq!(rt;
+        tallies(|bytes, at| IS_SPACE(bytes, at)),
+        [(1, 32), (256, 2129792), (0, 0)]
+    );
+    assert_eq!(rt;
+        tallies(|bytes, at| IS_TAB(bytes, at)),
+        [(1, 9), (256, 622464), (0, 0)]
+    );
+    assert_eq!(rt;
+        tallies(|bytes, at| IS_BLANK(bytes, at)),
+        [(2, 41), (512, 2752256), (0, 0)]
+    );
+    assert_eq!(rt;
+        tallies(|bytes, at| IS_BREAK(bytes, at)),
         [(2, 23), (513, 1622405), (258, 3293216977)]
     );
-    assert_eq!(rt; tallies(IS_CRLF), [(0, 0), (1, 3338), (0, 0)]);
     assert_eq!(rt;
-        tallies(IS_BREAKZ),
+        tallies(|bytes, at| IS_CRLF(bytes, at)),
+        [(0, 0), (1, 3338), (0, 0)]
+    );
+    assert_eq!(rt;
+        tallies(|bytes, at| IS_BREAKZ(bytes, at)),
         [(3, 23), (769, 1655045), (258, 3293216977)]
     );
     assert_eq!(rt;
-        tallies(IS_BLANKZ),
+        tallies(|bytes, at| IS_BLANKZ(bytes, at)),
         [(5, 64), (1281, 4407301), (258, 3293216977)]
     );
 }

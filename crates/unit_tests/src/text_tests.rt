@@ -1,14 +1,33 @@
-use super::*;
-use crate::fault::make_memory_fault;
-use crate::utf8::push_char;
+//! Texts: what is decoded and refused, marks, and the types of tokens and faults.
 use std::alloc::Global;
 use std::test::Fail;
+use yaml_text::{
+    unnamed_yaml_token_t_data, yaml_decode, yaml_decode_front, yaml_encoding_of, yaml_encoding_t,
+    yaml_error_type_t, yaml_fault_t, yaml_index_from_end, yaml_is_place, yaml_mark_at, yaml_mark_t,
+    yaml_scalar_style_t, yaml_tag_directive_t, yaml_token_t, yaml_token_type_t,
+};
 
 const ANY: yaml_encoding_t = yaml_encoding_t::YAML_ANY_ENCODING;
 
 const UTF8: yaml_encoding_t = yaml_encoding_t::YAML_UTF8_ENCODING;
 
 const UTF16BE: yaml_encoding_t = yaml_encoding_t::YAML_UTF16BE_ENCODING;
+
+const FRONT: yaml_mark_t = yaml_mark_t {
+    index: 0,
+    line: 0,
+    column: 0,
+};
+
+const MEMORY_FAULT: yaml_fault_t = yaml_fault_t {
+    error: yaml_error_type_t::YAML_MEMORY_ERROR,
+    problem: None,
+    problem_offset: 0,
+    problem_value: 0,
+    problem_mark: FRONT,
+    context: None,
+    context_mark: FRONT,
+};
 
 /// The number of bytes and the mark at the end, or the fault's offset, value and problem.
 fn decoded(alloc: Global, input: &[u8], setting: yaml_encoding_t) -> Result<String, Fail> {
@@ -92,7 +111,7 @@ fn decode_text_or_fault(rt: HostRuntime) -> Result<(), Fail> {
         problem: Some("invalid leading UTF-8 octet"),
         problem_offset: 1,
         problem_value: 255,
-        ..make_memory_fault()
+        ..MEMORY_FAULT
     };
     assert_eq!(rt; fault, want);
     Ok(())
@@ -223,7 +242,7 @@ fn unequal_parts(rt: HostRuntime) -> Result<(), Fail> {
         end_mark: next,
     };
     assert!(rt; ended != yaml_token_t::empty());
-    let fault = make_memory_fault();
+    let fault = MEMORY_FAULT;
     let other = yaml_fault_t {
         context: Some("while scanning a tag"),
         ..fault
@@ -243,8 +262,9 @@ fn unequal_parts(rt: HostRuntime) -> Result<(), Fail> {
 
 #[test]
 fn utf8_written(rt: HostRuntime) -> Result<(), Fail> {
-    let mut out = Vec::new(rt.alloc());
-    push_char(&mut out, 0x20AC)?;
-    assert_eq!(rt; out.as_slice(), b"\xE2\x82\xAC".as_slice());
+    let Ok(text) = yaml_decode(rt.alloc(), b"\x20\xAC", UTF16BE) else {
+        return Err("a text".into());
+    };
+    assert_eq!(rt; text.bytes(), b"\xE2\x82\xAC".as_slice());
     Ok(())
 }
