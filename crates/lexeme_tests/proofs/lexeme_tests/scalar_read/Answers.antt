@@ -1,5 +1,5 @@
 use Rattle.yaml_lexeme.proofs.Places.CursorMoves.{at_front}
-use Rattle.unit_tests.proofs.lexeme_tests.scalar_read.Goals as goal
+use Rattle.lexeme_tests.proofs.lexeme_tests.scalar_read.Goals as goal
 
 pub yaml_read_plain-read-requires-clause-place : goal.yaml_read_plain-read-requires-clause-place
 yaml_read_plain-read-requires-clause-place c = (0, at_front c.in-Ok.text.chars)

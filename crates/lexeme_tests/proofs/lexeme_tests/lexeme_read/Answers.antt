@@ -1,7 +1,7 @@
 use Rattle.std.proofs.Common.{◌∙◌, sym}
 use Rattle.std.specs.Prelude.{nat_lt}
 use Rattle.yaml_lexeme.proofs.Places.CursorMoves.{at_front}
-use Rattle.unit_tests.proofs.lexeme_tests.lexeme_read.Goals as goal
+use Rattle.lexeme_tests.proofs.lexeme_tests.lexeme_read.Goals as goal
 
 pub yaml_lexeme_kind-requires : goal.yaml_lexeme_kind-requires
 yaml_lexeme_kind-requires c = (0, at_front c.in-Ok.text.chars)

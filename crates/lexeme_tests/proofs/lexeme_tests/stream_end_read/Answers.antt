@@ -1,6 +1,6 @@
 use Rattle.std.proofs.Common.{refl}
 use Rattle.yaml_lexeme.proofs.CountedMarks.CountedPlaces.{marks_counted}
-use Rattle.unit_tests.proofs.lexeme_tests.stream_end_read.Goals as goal
+use Rattle.lexeme_tests.proofs.lexeme_tests.stream_end_read.Goals as goal
 
 pub yaml_read_stream_end-requires : goal.yaml_read_stream_end-requires
 yaml_read_stream_end-requires c =

@@ -1,6 +1,6 @@
 use Rattle.std.proofs.Common.{refl, sym}
 use Rattle.yaml_lexeme.proofs.CountedMarks.CountedPlaces.{marks_counted}
-use Rattle.unit_tests.proofs.lexeme_tests.lexed_after.Goals as goal
+use Rattle.lexeme_tests.proofs.lexeme_tests.lexed_after.Goals as goal
 
 pub yaml_lexeme_kind-requires : goal.yaml_lexeme_kind-requires
 yaml_lexeme_kind-requires c =
