@@ -1,7 +1,7 @@
 //! The tests of `yaml_scan`.
 //!
 //! They are a crate of their own: the gate would prove that crate, or the program `testbench`, once more if the tests
-//! were theirs.
+//! were theirs. Only the test of a field of `yaml_scan` is there.
 #![tactic(auto)]
 
 #[cfg(test)]
