@@ -50,35 +50,35 @@ fn expect_order<T: Copy + Ord + Hash>(rt: &impl Abort, values: &[T]) {
 
 #[test]
 fn encodings(rt: HostRuntime) {
-    let values = [
+    const VALUES: [yaml_encoding_t; 4] = [
         yaml_encoding_t::YAML_ANY_ENCODING,
         yaml_encoding_t::YAML_UTF8_ENCODING,
         yaml_encoding_t::YAML_UTF16LE_ENCODING,
         yaml_encoding_t::YAML_UTF16BE_ENCODING,
     ];
-    expect_order(&rt, &values);
-    for (number, value) in (0u8..).zip(values) {
+    expect_order(&rt, &VALUES);
+    for (number, value) in (0u8..).zip(VALUES) {
         assert_eq!(rt; value as u8, number);
     }
 }
 
 #[test]
 fn breaks(rt: HostRuntime) {
-    let values = [
+    const VALUES: [yaml_break_t; 4] = [
         yaml_break_t::YAML_ANY_BREAK,
         yaml_break_t::YAML_CR_BREAK,
         yaml_break_t::YAML_LN_BREAK,
         yaml_break_t::YAML_CRLN_BREAK,
     ];
-    expect_order(&rt, &values);
-    for (number, value) in (0u8..).zip(values) {
+    expect_order(&rt, &VALUES);
+    for (number, value) in (0u8..).zip(VALUES) {
         assert_eq!(rt; value as u8, number);
     }
 }
 
 #[test]
 fn error_types(rt: HostRuntime) {
-    let values = [
+    const VALUES: [yaml_error_type_t; 8] = [
         yaml_error_type_t::YAML_NO_ERROR,
         yaml_error_type_t::YAML_MEMORY_ERROR,
         yaml_error_type_t::YAML_READER_ERROR,
@@ -88,15 +88,15 @@ fn error_types(rt: HostRuntime) {
         yaml_error_type_t::YAML_WRITER_ERROR,
         yaml_error_type_t::YAML_EMITTER_ERROR,
     ];
-    expect_order(&rt, &values);
-    for (number, value) in (0u8..).zip(values) {
+    expect_order(&rt, &VALUES);
+    for (number, value) in (0u8..).zip(VALUES) {
         assert_eq!(rt; value as u8, number);
     }
 }
 
 #[test]
 fn scalar_styles(rt: HostRuntime) {
-    let values = [
+    const VALUES: [yaml_scalar_style_t; 6] = [
         yaml_scalar_style_t::YAML_ANY_SCALAR_STYLE,
         yaml_scalar_style_t::YAML_PLAIN_SCALAR_STYLE,
         yaml_scalar_style_t::YAML_SINGLE_QUOTED_SCALAR_STYLE,
@@ -104,41 +104,41 @@ fn scalar_styles(rt: HostRuntime) {
         yaml_scalar_style_t::YAML_LITERAL_SCALAR_STYLE,
         yaml_scalar_style_t::YAML_FOLDED_SCALAR_STYLE,
     ];
-    expect_order(&rt, &values);
-    for (number, value) in (0u8..).zip(values) {
+    expect_order(&rt, &VALUES);
+    for (number, value) in (0u8..).zip(VALUES) {
         assert_eq!(rt; value as u8, number);
     }
 }
 
 #[test]
 fn sequence_styles(rt: HostRuntime) {
-    let values = [
+    const VALUES: [yaml_sequence_style_t; 3] = [
         yaml_sequence_style_t::YAML_ANY_SEQUENCE_STYLE,
         yaml_sequence_style_t::YAML_BLOCK_SEQUENCE_STYLE,
         yaml_sequence_style_t::YAML_FLOW_SEQUENCE_STYLE,
     ];
-    expect_order(&rt, &values);
-    for (number, value) in (0u8..).zip(values) {
+    expect_order(&rt, &VALUES);
+    for (number, value) in (0u8..).zip(VALUES) {
         assert_eq!(rt; value as u8, number);
     }
 }
 
 #[test]
 fn mapping_styles(rt: HostRuntime) {
-    let values = [
+    const VALUES: [yaml_mapping_style_t; 3] = [
         yaml_mapping_style_t::YAML_ANY_MAPPING_STYLE,
         yaml_mapping_style_t::YAML_BLOCK_MAPPING_STYLE,
         yaml_mapping_style_t::YAML_FLOW_MAPPING_STYLE,
     ];
-    expect_order(&rt, &values);
-    for (number, value) in (0u8..).zip(values) {
+    expect_order(&rt, &VALUES);
+    for (number, value) in (0u8..).zip(VALUES) {
         assert_eq!(rt; value as u8, number);
     }
 }
 
 #[test]
 fn token_types(rt: HostRuntime) {
-    let values = [
+    const VALUES: [yaml_token_type_t; 22] = [
         yaml_token_type_t::YAML_NO_TOKEN,
         yaml_token_type_t::YAML_STREAM_START_TOKEN,
         yaml_token_type_t::YAML_STREAM_END_TOKEN,
@@ -162,8 +162,8 @@ fn token_types(rt: HostRuntime) {
         yaml_token_type_t::YAML_TAG_TOKEN,
         yaml_token_type_t::YAML_SCALAR_TOKEN,
     ];
-    expect_order(&rt, &values);
-    for (number, value) in (0u8..).zip(values) {
+    expect_order(&rt, &VALUES);
+    for (number, value) in (0u8..).zip(VALUES) {
         assert_eq!(rt; value as u8, number);
     }
 }
@@ -171,8 +171,7 @@ fn token_types(rt: HostRuntime) {
 /// The word of each kind of error, and a fault of that kind.
 #[test]
 fn words(rt: HostRuntime) -> Result<(), Fail> {
-    let alloc = rt.alloc();
-    let rows = [
+    const ROWS: [(yaml_error_type_t, &str); 8] = [
         (yaml_error_type_t::YAML_NO_ERROR, "none"),
         (yaml_error_type_t::YAML_MEMORY_ERROR, "memory"),
         (yaml_error_type_t::YAML_READER_ERROR, "reader"),
@@ -182,7 +181,8 @@ fn words(rt: HostRuntime) -> Result<(), Fail> {
         (yaml_error_type_t::YAML_WRITER_ERROR, "writer"),
         (yaml_error_type_t::YAML_EMITTER_ERROR, "emitter"),
     ];
-    for (error, word) in rows {
+    let alloc = rt.alloc();
+    for (error, word) in ROWS {
         assert_eq!(rt; error.to_string(alloc)?.as_str(), word);
         let fault = yaml_fault_t {
             error,

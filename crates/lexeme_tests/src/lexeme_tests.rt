@@ -347,8 +347,7 @@ fn expect_rows(
 
 #[test]
 fn gaps(rt: HostRuntime) -> Result<(), Fail> {
-    let alloc = rt.alloc();
-    let gaps: [(&str, bool, bool, &str); 14] = [
+    const GAPS: [(&str, bool, bool, &str); 14] = [
         ("\r\n  x", false, false, "4:1:2 true"),
         ("\r\n\tx", false, false, "2:1:0 true"),
         ("\r\n  #c\r\nx", false, false, "8:2:0 true"),
@@ -364,7 +363,8 @@ fn gaps(rt: HostRuntime) -> Result<(), Fail> {
         ("#c\n#d\r\n\u{2028} #e\r  x", false, true, "16:4:2 true"),
         ("#c\n\n \n\tx", false, false, "6:3:0 true"),
     ];
-    for (bytes, in_flow, allowed, want) in gaps {
+    let alloc = rt.alloc();
+    for (bytes, in_flow, allowed, want) in GAPS {
         let shown = show_gap(alloc, bytes.as_bytes(), in_flow, allowed)?;
         assert_eq!(rt; shown.as_str(), want, "{bytes}");
     }
@@ -400,7 +400,7 @@ fn expect_comment(
 
 #[test]
 fn comments_of_each_length(rt: HostRuntime) -> Result<(), Fail> {
-    let breaks: [(&str, bool); 8] = [
+    const BREAKS: [(&str, bool); 8] = [
         ("\n", true),
         ("\r", true),
         ("\r\n", true),
@@ -410,7 +410,7 @@ fn comments_of_each_length(rt: HostRuntime) -> Result<(), Fail> {
         ("\u{a9}", false),
         ("\u{202a}", false),
     ];
-    for break_is in breaks {
+    for break_is in BREAKS {
         for letters in 0..36u64 {
             for spaces in [0u64, 1, 14, 15, 16, 17, 33] {
                 expect_comment(&rt, rt.alloc(), break_is, (letters, spaces))?;
@@ -422,8 +422,7 @@ fn comments_of_each_length(rt: HostRuntime) -> Result<(), Fail> {
 
 #[test]
 fn kinds(rt: HostRuntime) -> Result<(), Fail> {
-    let alloc = rt.alloc();
-    let rows: [(&str, bool, yaml_lexeme_kind_t); 6] = [
+    const ROWS: [(&str, bool, yaml_lexeme_kind_t); 6] = [
         ("-x", false, yaml_lexeme_kind_t::PLAIN),
         ("-", false, yaml_lexeme_kind_t::BLOCK_ENTRY),
         ("---x", false, yaml_lexeme_kind_t::PLAIN),
@@ -431,7 +430,8 @@ fn kinds(rt: HostRuntime) -> Result<(), Fail> {
         ("?x", false, yaml_lexeme_kind_t::PLAIN),
         ("?x", true, yaml_lexeme_kind_t::KEY),
     ];
-    for (bytes, in_flow, want) in rows {
+    let alloc = rt.alloc();
+    for (bytes, in_flow, want) in ROWS {
         let found = kind_of(alloc, bytes.as_bytes(), in_flow)?;
         assert!(rt; found == Some(want), "{bytes}");
     }
@@ -440,13 +440,13 @@ fn kinds(rt: HostRuntime) -> Result<(), Fail> {
 
 #[test]
 fn kinds_at_the_start_of_a_line(rt: HostRuntime) -> Result<(), Fail> {
-    let alloc = rt.alloc();
-    let rows: [(&str, usize, Option<yaml_lexeme_kind_t>); 3] = [
+    const ROWS: [(&str, usize, Option<yaml_lexeme_kind_t>); 3] = [
         (" %", 1, None),
         ("\n%", 1, Some(yaml_lexeme_kind_t::DIRECTIVE)),
         (" ---", 1, Some(yaml_lexeme_kind_t::PLAIN)),
     ];
-    for (text, index, want) in rows {
+    let alloc = rt.alloc();
+    for (text, index, want) in ROWS {
         let found = kind_after(alloc, text.as_bytes(), index, false)?;
         assert!(rt; found == want, "{text}");
     }
@@ -455,17 +455,17 @@ fn kinds_at_the_start_of_a_line(rt: HostRuntime) -> Result<(), Fail> {
 
 #[test]
 fn no_kind(rt: HostRuntime) -> Result<(), Fail> {
-    let rows: [(&str, u64, Option<u64>, &str); 2] = [
+    const ROWS: [(&str, u64, Option<u64>, &str); 2] = [
         ("@", 0, None, "no kind"),
         ("|", 1, None, "no kind"),
     ];
-    expect_rows(&rt, rt.alloc(), &rows)
+    expect_rows(&rt, rt.alloc(), &ROWS)
 }
 
 /// Document markers, and lexemes of one character.
 #[test]
 fn kinds_of_fixed_length(rt: HostRuntime) -> Result<(), Fail> {
-    let rows: [(&str, u64, Option<u64>, &str); 13] = [
+    const ROWS: [(&str, u64, Option<u64>, &str); 13] = [
         ("---", 0, None, "document start 0:0:0 3:0:3 3:0:3 false"),
         ("---\n", 1, None, "document start 0:0:0 3:0:3 3:0:3 false"),
         ("... x", 0, None, "document end 0:0:0 3:0:3 3:0:3 false"),
@@ -480,22 +480,27 @@ fn kinds_of_fixed_length(rt: HostRuntime) -> Result<(), Fail> {
         (": a", 0, None, "value 0:0:0 1:0:1 1:0:1 false"),
         (":a", 1, None, "value 0:0:0 1:0:1 1:0:1 false"),
     ];
-    expect_rows(&rt, rt.alloc(), &rows)
+    expect_rows(&rt, rt.alloc(), &ROWS)
 }
 
 #[test]
 fn stream_end(rt: HostRuntime) -> Result<(), Fail> {
-    let rows: [(&str, u64, Option<u64>, &str); 1] = [("", 0, None, "end 0:0:0 0:0:0 0:0:0 false")];
+    const ROWS: [(&str, u64, Option<u64>, &str); 1] = [(
+        "",
+        0,
+        None,
+        "end 0:0:0 0:0:0 0:0:0 false",
+    )];
     assert!(rt; kind_after(rt.alloc(), b"a", 1, false)? == Some(yaml_lexeme_kind_t::STREAM_END));
     let shown = lexed_after(rt.alloc(), b"a", 1)?;
     assert_eq!(rt; shown.as_str(), "end 1:1:0 1:1:0 1:1:0 false");
-    expect_rows(&rt, rt.alloc(), &rows)
+    expect_rows(&rt, rt.alloc(), &ROWS)
 }
 
 /// Separators in plain and quoted scalars.
 #[test]
 fn folded_separators(rt: HostRuntime) -> Result<(), Fail> {
-    let rows: [(&str, u64, Option<u64>, &str); 5] = [
+    const ROWS: [(&str, u64, Option<u64>, &str); 5] = [
         ("a\n\nb", 0, None, "plain 610a62 0:0:0 4:2:1 4:2:1 false"),
         (
             "a\u{2028}b",
@@ -517,12 +522,12 @@ fn folded_separators(rt: HostRuntime) -> Result<(), Fail> {
             "double 610a62 0:0:0 8:2:4 8:2:4 false",
         ),
     ];
-    expect_rows(&rt, rt.alloc(), &rows)
+    expect_rows(&rt, rt.alloc(), &ROWS)
 }
 
 #[test]
 fn quoted_scalars(rt: HostRuntime) -> Result<(), Fail> {
-    let rows: [(&str, u64, Option<u64>, &str); 4] = [
+    const ROWS: [(&str, u64, Option<u64>, &str); 4] = [
         (
             "'it''s'",
             0,
@@ -548,12 +553,12 @@ fn quoted_scalars(rt: HostRuntime) -> Result<(), Fail> {
             "while scanning a quoted scalar 0:0:0; found unexpected end of stream 2:0:2",
         ),
     ];
-    expect_rows(&rt, rt.alloc(), &rows)
+    expect_rows(&rt, rt.alloc(), &ROWS)
 }
 
 #[test]
 fn escapes(rt: HostRuntime) -> Result<(), Fail> {
-    let rows: [(&str, u64, Option<u64>, &str); 9] = [
+    const ROWS: [(&str, u64, Option<u64>, &str); 9] = [
         (
             "\"a\\\n\n b\"",
             0,
@@ -609,12 +614,12 @@ fn escapes(rt: HostRuntime) -> Result<(), Fail> {
             "double 00070809090a0b0c0d1b20222f5cc285c2a0e280a8e280a9 0:0:0 38:0:38 38:0:38 false",
         ),
     ];
-    expect_rows(&rt, rt.alloc(), &rows)
+    expect_rows(&rt, rt.alloc(), &ROWS)
 }
 
 #[test]
 fn plain_scalars(rt: HostRuntime) -> Result<(), Fail> {
-    let rows: [(&str, u64, Option<u64>, &str); 7] = [
+    const ROWS: [(&str, u64, Option<u64>, &str); 7] = [
         ("a b # c", 0, None, "plain 612062 0:0:0 3:0:3 4:0:4 false"),
         ("a#b", 0, None, "plain 612362 0:0:0 3:0:3 3:0:3 false"),
         ("a\nb", 0, Some(0), "plain 61 0:0:0 1:0:1 2:1:0 true"),
@@ -633,12 +638,12 @@ fn plain_scalars(rt: HostRuntime) -> Result<(), Fail> {
             "while scanning a plain scalar 0:0:0; found a tab character that violates indentation 2:1:0",
         ),
     ];
-    expect_rows(&rt, rt.alloc(), &rows)
+    expect_rows(&rt, rt.alloc(), &ROWS)
 }
 
 #[test]
 fn plain_scalars_before_lines(rt: HostRuntime) -> Result<(), Fail> {
-    let rows: [(&str, u64, Option<u64>, &str); 9] = [
+    const ROWS: [(&str, u64, Option<u64>, &str); 9] = [
         ("a\n]", 1, None, "plain 61 0:0:0 1:0:1 2:1:0 true"),
         ("a\n  }", 1, Some(3), "plain 61 0:0:0 1:0:1 4:1:2 true"),
         ("a\n ,b", 1, None, "plain 61 0:0:0 1:0:1 3:1:1 true"),
@@ -649,12 +654,12 @@ fn plain_scalars_before_lines(rt: HostRuntime) -> Result<(), Fail> {
         ("a\n  b", 0, Some(1), "plain 612062 0:0:0 5:1:3 5:1:3 false"),
         ("a\n ]", 0, None, "plain 61205d 0:0:0 4:1:2 4:1:2 false"),
     ];
-    expect_rows(&rt, rt.alloc(), &rows)
+    expect_rows(&rt, rt.alloc(), &ROWS)
 }
 
 #[test]
 fn plain_scalars_before_blanks(rt: HostRuntime) -> Result<(), Fail> {
-    let rows: [(&str, u64, Option<u64>, &str); 14] = [
+    const ROWS: [(&str, u64, Option<u64>, &str); 14] = [
         ("a  # c", 0, None, "plain 61 0:0:0 1:0:1 3:0:3 false"),
         ("a \t: b", 0, None, "plain 61 0:0:0 1:0:1 3:0:3 false"),
         ("a :b", 0, None, "plain 61203a62 0:0:0 4:0:4 4:0:4 false"),
@@ -680,7 +685,7 @@ fn plain_scalars_before_blanks(rt: HostRuntime) -> Result<(), Fail> {
             "plain 610a62 0:0:0 7:2:2 7:2:2 false",
         ),
     ];
-    expect_rows(&rt, rt.alloc(), &rows)
+    expect_rows(&rt, rt.alloc(), &ROWS)
 }
 
 /// So many times a letter.
@@ -726,7 +731,7 @@ fn expect_between(
 
 #[test]
 fn first_bytes_of_breaks_at_each_place(rt: HostRuntime) -> Result<(), Fail> {
-    let rows: [(&str, &str, bool); 10] = [
+    const ROWS: [(&str, &str, bool); 10] = [
         ("\n", " ", true),
         ("\r", " ", true),
         ("\r\n", " ", true),
@@ -738,7 +743,7 @@ fn first_bytes_of_breaks_at_each_place(rt: HostRuntime) -> Result<(), Fail> {
         ("\u{202a}", "\u{202a}", false),
         ("\u{2128}", "\u{2128}", false),
     ];
-    for row in rows {
+    for row in ROWS {
         for front in 1..36u64 {
             for back in [1u64, 12, 13, 14, 15, 16, 17, 33] {
                 expect_between(&rt, rt.alloc(), row, (front, back))?;
@@ -750,7 +755,7 @@ fn first_bytes_of_breaks_at_each_place(rt: HostRuntime) -> Result<(), Fail> {
 
 #[test]
 fn block_headers(rt: HostRuntime) -> Result<(), Fail> {
-    let rows: [(&str, u64, Option<u64>, &str); 9] = [
+    const ROWS: [(&str, u64, Option<u64>, &str); 9] = [
         ("|", 0, None, "literal - 0:0:0 1:0:1 1:0:1 false"),
         ("|#c\n a\n", 0, None, "literal 610a 0:0:0 7:2:0 7:2:0 false"),
         (
@@ -796,12 +801,12 @@ fn block_headers(rt: HostRuntime) -> Result<(), Fail> {
             "folded 610a0a 0:0:0 8:3:0 8:3:0 false",
         ),
     ];
-    expect_rows(&rt, rt.alloc(), &rows)
+    expect_rows(&rt, rt.alloc(), &ROWS)
 }
 
 #[test]
 fn block_indentation(rt: HostRuntime) -> Result<(), Fail> {
-    let rows: [(&str, u64, Option<u64>, &str); 5] = [
+    const ROWS: [(&str, u64, Option<u64>, &str); 5] = [
         ("|2\n  a", 0, Some(1), "literal - 0:0:0 3:1:0 5:1:2 false"),
         ("|\n a\n ", 0, None, "literal 610a 0:0:0 5:2:0 6:2:1 false"),
         (
@@ -818,12 +823,12 @@ fn block_indentation(rt: HostRuntime) -> Result<(), Fail> {
         ),
         ("|\n   \n a", 0, None, "literal - 0:0:0 6:2:0 7:2:1 false"),
     ];
-    expect_rows(&rt, rt.alloc(), &rows)
+    expect_rows(&rt, rt.alloc(), &ROWS)
 }
 
 #[test]
 fn block_values(rt: HostRuntime) -> Result<(), Fail> {
-    let rows: [(&str, u64, Option<u64>, &str); 6] = [
+    const ROWS: [(&str, u64, Option<u64>, &str); 6] = [
         (
             "|-\n a\n\n b\n\n",
             0,
@@ -861,7 +866,7 @@ fn block_values(rt: HostRuntime) -> Result<(), Fail> {
             "literal 610a0a 0:0:0 7:3:0 7:3:0 false",
         ),
     ];
-    expect_rows(&rt, rt.alloc(), &rows)
+    expect_rows(&rt, rt.alloc(), &ROWS)
 }
 
 /// Compares a literal and a folded scalar with what is wanted: a line of x, then what is between, then y up to a line
@@ -900,7 +905,7 @@ fn expect_lines(
 
 #[test]
 fn block_lines_of_each_length(rt: HostRuntime) -> Result<(), Fail> {
-    let rows: [(&str, &str, &str, u64); 13] = [
+    const ROWS: [(&str, &str, &str, u64); 13] = [
         ("\n ", "\n", " ", 3),
         ("\r ", "\n", " ", 3),
         ("\r\n ", "\n", " ", 3),
@@ -915,7 +920,7 @@ fn block_lines_of_each_length(rt: HostRuntime) -> Result<(), Fail> {
         ("\u{202a}", "\u{202a}", "\u{202a}", 2),
         ("\u{2128}", "\u{2128}", "\u{2128}", 2),
     ];
-    for row in rows {
+    for row in ROWS {
         for front in 1..67u64 {
             for back in [1u64, 15, 16, 17, 64] {
                 expect_lines(&rt, rt.alloc(), row, (front, back))?;
@@ -927,7 +932,7 @@ fn block_lines_of_each_length(rt: HostRuntime) -> Result<(), Fail> {
 
 #[test]
 fn ends_of_block_scalars(rt: HostRuntime) -> Result<(), Fail> {
-    let rows: [(&str, u64, Option<u64>, &str); 9] = [
+    const ROWS: [(&str, u64, Option<u64>, &str); 9] = [
         ("|+\n a", 0, None, "literal 61 0:0:0 5:1:2 5:1:2 false"),
         ("|+\n a\r", 0, None, "literal 610a 0:0:0 6:2:0 6:2:0 false"),
         (
@@ -968,13 +973,13 @@ fn ends_of_block_scalars(rt: HostRuntime) -> Result<(), Fail> {
             "folded 610a 0:0:0 7:3:0 7:3:0 false",
         ),
     ];
-    expect_rows(&rt, rt.alloc(), &rows)
+    expect_rows(&rt, rt.alloc(), &ROWS)
 }
 
 /// Anchors and aliases.
 #[test]
 fn names(rt: HostRuntime) -> Result<(), Fail> {
-    let rows: [(&str, u64, Option<u64>, &str); 11] = [
+    const ROWS: [(&str, u64, Option<u64>, &str); 11] = [
         ("&a]", 0, None, "anchor 61 0:0:0 2:0:2 2:0:2 false"),
         ("*a]", 0, None, "alias 61 0:0:0 2:0:2 2:0:2 false"),
         (
@@ -997,12 +1002,12 @@ fn names(rt: HostRuntime) -> Result<(), Fail> {
         ("*a@", 0, None, "alias 61 0:0:0 2:0:2 2:0:2 false"),
         ("*a`", 0, None, "alias 61 0:0:0 2:0:2 2:0:2 false"),
     ];
-    expect_rows(&rt, rt.alloc(), &rows)
+    expect_rows(&rt, rt.alloc(), &ROWS)
 }
 
 #[test]
 fn uris(rt: HostRuntime) -> Result<(), Fail> {
-    let rows: [(&str, u64, Option<u64>, &str); 8] = [
+    const ROWS: [(&str, u64, Option<u64>, &str); 8] = [
         ("!%00 x", 0, None, "tag 21 00 0:0:0 4:0:4 4:0:4 false"),
         ("!%C0%80 x", 0, None, "tag 21 c080 0:0:0 7:0:7 7:0:7 false"),
         (
@@ -1042,12 +1047,12 @@ fn uris(rt: HostRuntime) -> Result<(), Fail> {
             "tag 213039415a617a5f2d21 3039415a617a5f2d3b2f3f3a40263d2b242e217e2a272829 0:0:0 34:0:34 34:0:34 false",
         ),
     ];
-    expect_rows(&rt, rt.alloc(), &rows)
+    expect_rows(&rt, rt.alloc(), &ROWS)
 }
 
 #[test]
 fn tags(rt: HostRuntime) -> Result<(), Fail> {
-    let rows: [(&str, u64, Option<u64>, &str); 7] = [
+    const ROWS: [(&str, u64, Option<u64>, &str); 7] = [
         ("! x", 0, None, "tag - 21 0:0:0 1:0:1 1:0:1 false"),
         (
             "!!str x",
@@ -1086,12 +1091,12 @@ fn tags(rt: HostRuntime) -> Result<(), Fail> {
             "while scanning a tag 0:0:0; did not find expected whitespace or line break 5:0:5",
         ),
     ];
-    expect_rows(&rt, rt.alloc(), &rows)
+    expect_rows(&rt, rt.alloc(), &ROWS)
 }
 
 #[test]
 fn directives(rt: HostRuntime) -> Result<(), Fail> {
-    let rows: [(&str, u64, Option<u64>, &str); 2] = [
+    const ROWS: [(&str, u64, Option<u64>, &str); 2] = [
         (
             "%YAML 1.1 # c\n",
             0,
@@ -1100,12 +1105,12 @@ fn directives(rt: HostRuntime) -> Result<(), Fail> {
         ),
         ("%TAG ! x", 0, None, "handle 21 78 0:0:0 8:0:8 8:0:8 false"),
     ];
-    expect_rows(&rt, rt.alloc(), &rows)
+    expect_rows(&rt, rt.alloc(), &ROWS)
 }
 
 #[test]
 fn directives_refused(rt: HostRuntime) -> Result<(), Fail> {
-    let rows: [(&str, u64, Option<u64>, &str); 12] = [
+    const ROWS: [(&str, u64, Option<u64>, &str); 12] = [
         (
             "%",
             0,
@@ -1179,14 +1184,13 @@ fn directives_refused(rt: HostRuntime) -> Result<(), Fail> {
             "while scanning a %TAG directive 0:0:0; did not find expected whitespace or line break 10:0:10",
         ),
     ];
-    expect_rows(&rt, rt.alloc(), &rows)
+    expect_rows(&rt, rt.alloc(), &ROWS)
 }
 
 /// Plain scalars of one line and of two, and one that has an offence.
 #[test]
 fn plain_scalars_read(rt: HostRuntime) -> Result<(), Fail> {
-    let alloc = rt.alloc();
-    let rows: [(&str, u64, Option<u64>, &str); 9] = [
+    const ROWS: [(&str, u64, Option<u64>, &str); 9] = [
         ("ab: c", 0, None, "plain 6162 0:0:0 2:0:2 2:0:2 false"),
         ("a b]", 1, None, "plain 612062 0:0:0 3:0:3 3:0:3 false"),
         ("a b\n", 0, Some(0), "plain 612062 0:0:0 3:0:3 4:1:0 true"),
@@ -1202,7 +1206,8 @@ fn plain_scalars_read(rt: HostRuntime) -> Result<(), Fail> {
         ),
         ("a:]", 0, None, "plain 613a5d 0:0:0 3:0:3 3:0:3 false"),
     ];
-    for (text, depth, level, want) in rows {
+    let alloc = rt.alloc();
+    for (text, depth, level, want) in ROWS {
         let context = yaml_context_t { depth, level };
         let plain = yaml_lexeme_kind_t::PLAIN;
         let shown = scalar_read(alloc, text.as_bytes(), plain, context)?;
@@ -1215,37 +1220,35 @@ fn plain_scalars_read(rt: HostRuntime) -> Result<(), Fail> {
 #[test]
 fn quoted_scalars_read(rt: HostRuntime) -> Result<(), Fail> {
     let alloc = rt.alloc();
-    let (single, double) = (
-        yaml_lexeme_kind_t::SINGLE_QUOTED,
-        yaml_lexeme_kind_t::DOUBLE_QUOTED,
-    );
-    let rows: [(&str, yaml_lexeme_kind_t, &str); 8] = [
+    const SINGLE: yaml_lexeme_kind_t = yaml_lexeme_kind_t::SINGLE_QUOTED;
+    const DOUBLE: yaml_lexeme_kind_t = yaml_lexeme_kind_t::DOUBLE_QUOTED;
+    const ROWS: [(&str, yaml_lexeme_kind_t, &str); 8] = [
         (
             "\"a b\": c",
-            double,
+            DOUBLE,
             "double 612062 0:0:0 5:0:5 5:0:5 false",
         ),
-        ("''", single, "single - 0:0:0 2:0:2 2:0:2 false"),
+        ("''", SINGLE, "single - 0:0:0 2:0:2 2:0:2 false"),
         (
             "'a\\n\"'\n",
-            single,
+            SINGLE,
             "single 615c6e22 0:0:0 6:0:6 6:0:6 false",
         ),
-        ("'a''b'", single, "single 612762 0:0:0 6:0:6 6:0:6 false"),
-        ("\"a\\n\"", double, "double 610a 0:0:0 5:0:5 5:0:5 false"),
-        ("\"a\n b\"", double, "double 612062 0:0:0 6:1:3 6:1:3 false"),
+        ("'a''b'", SINGLE, "single 612762 0:0:0 6:0:6 6:0:6 false"),
+        ("\"a\\n\"", DOUBLE, "double 610a 0:0:0 5:0:5 5:0:5 false"),
+        ("\"a\n b\"", DOUBLE, "double 612062 0:0:0 6:1:3 6:1:3 false"),
         (
             "\"a",
-            double,
+            DOUBLE,
             "while scanning a quoted scalar 0:0:0; found unexpected end of stream 2:0:2",
         ),
         (
             "'\u{2028}'",
-            single,
+            SINGLE,
             "single e280a8 0:0:0 5:1:1 5:1:1 false",
         ),
     ];
-    for (text, kind, want) in rows {
+    for (text, kind, want) in ROWS {
         let shown = scalar_read(alloc, text.as_bytes(), kind, OUTSIDE)?;
         assert_eq!(rt; shown.as_str(), want, "{text}");
     }
@@ -1255,48 +1258,49 @@ fn quoted_scalars_read(rt: HostRuntime) -> Result<(), Fail> {
 /// Literal and folded scalars, and some that have an offence.
 #[test]
 fn block_scalars_read(rt: HostRuntime) -> Result<(), Fail> {
-    let alloc = rt.alloc();
-    let (literal, folded) = (yaml_lexeme_kind_t::LITERAL, yaml_lexeme_kind_t::FOLDED);
-    let rows: [(&str, yaml_lexeme_kind_t, Option<u64>, &str); 7] = [
+    const LITERAL: yaml_lexeme_kind_t = yaml_lexeme_kind_t::LITERAL;
+    const FOLDED: yaml_lexeme_kind_t = yaml_lexeme_kind_t::FOLDED;
+    const ROWS: [(&str, yaml_lexeme_kind_t, Option<u64>, &str); 7] = [
         (
             "|\n a\n b\n",
-            literal,
+            LITERAL,
             None,
             "literal 610a620a 0:0:0 8:3:0 8:3:0 false",
         ),
         (
             ">\n a\n b\n",
-            folded,
+            FOLDED,
             None,
             "folded 6120620a 0:0:0 8:3:0 8:3:0 false",
         ),
         (
             "|+\n a\n\n",
-            literal,
+            LITERAL,
             None,
             "literal 610a0a 0:0:0 7:3:0 7:3:0 false",
         ),
         (
             ">-\n  a\n\n  b\nc",
-            folded,
+            FOLDED,
             Some(1),
             "folded 610a62 0:0:0 12:4:0 12:4:0 false",
         ),
-        ("|", literal, None, "literal - 0:0:0 1:0:1 1:0:1 false"),
+        ("|", LITERAL, None, "literal - 0:0:0 1:0:1 1:0:1 false"),
         (
             "| a",
-            literal,
+            LITERAL,
             None,
             "while scanning a block scalar 0:0:0; did not find expected comment or line break 2:0:2",
         ),
         (
             "|\n\ta",
-            literal,
+            LITERAL,
             Some(0),
             "while scanning a block scalar 0:0:0; found a tab character where an indentation space is expected 2:1:0",
         ),
     ];
-    for (text, kind, level, want) in rows {
+    let alloc = rt.alloc();
+    for (text, kind, level, want) in ROWS {
         let context = yaml_context_t { depth: 0, level };
         let shown = scalar_read(alloc, text.as_bytes(), kind, context)?;
         assert_eq!(rt; shown.as_str(), want, "{text}");
@@ -1307,8 +1311,7 @@ fn block_scalars_read(rt: HostRuntime) -> Result<(), Fail> {
 /// The fault of a scalar's refusal is the one that `yaml_lexeme_at` returns.
 #[test]
 fn refusals_of_scalars(rt: HostRuntime) -> Result<(), Fail> {
-    let alloc = rt.alloc();
-    let rows: [(&str, yaml_lexeme_kind_t, u64); 6] = [
+    const ROWS: [(&str, yaml_lexeme_kind_t, u64); 6] = [
         ("ab:]", yaml_lexeme_kind_t::PLAIN, 1),
         ("a\n :?", yaml_lexeme_kind_t::PLAIN, 1),
         ("'a\n--- b'", yaml_lexeme_kind_t::SINGLE_QUOTED, 0),
@@ -1316,7 +1319,8 @@ fn refusals_of_scalars(rt: HostRuntime) -> Result<(), Fail> {
         ("|0\n", yaml_lexeme_kind_t::LITERAL, 0),
         (">- a\n", yaml_lexeme_kind_t::FOLDED, 0),
     ];
-    for (text, kind, depth) in rows {
+    let alloc = rt.alloc();
+    for (text, kind, depth) in ROWS {
         let want = lexed(alloc, text.as_bytes(), depth, None)?;
         let context = yaml_context_t { depth, level: None };
         let shown = scalar_read(alloc, text.as_bytes(), kind, context)?;
@@ -1329,8 +1333,7 @@ fn refusals_of_scalars(rt: HostRuntime) -> Result<(), Fail> {
 /// Lexemes of every kind, and their offences, by one reader.
 #[test]
 fn lexemes_read(rt: HostRuntime) -> Result<(), Fail> {
-    let alloc = rt.alloc();
-    let rows: [(&str, u64, &str); 12] = [
+    const ROWS: [(&str, u64, &str); 12] = [
         ("", 0, "end 0:0:0 0:0:0 0:0:0 false"),
         ("%YAML 1.1", 0, "version 1 1 0:0:0 9:0:9 9:0:9 false"),
         (
@@ -1360,7 +1363,8 @@ fn lexemes_read(rt: HostRuntime) -> Result<(), Fail> {
             "while scanning a plain scalar 0:0:0; found unexpected ':' 1:0:1",
         ),
     ];
-    for (text, depth, want) in rows {
+    let alloc = rt.alloc();
+    for (text, depth, want) in ROWS {
         let shown = lexeme_read(alloc, text.as_bytes(), depth)?;
         assert_eq!(rt; shown.as_str(), want, "{text}");
     }
@@ -1370,8 +1374,7 @@ fn lexemes_read(rt: HostRuntime) -> Result<(), Fail> {
 /// Names and tags of fewer and of more than sixteen bytes, and their offences, by the readers of their kinds.
 #[test]
 fn names_and_tags_read(rt: HostRuntime) -> Result<(), Fail> {
-    let alloc = rt.alloc();
-    let rows: [(&str, u64, &str); 12] = [
+    const ROWS: [(&str, u64, &str); 12] = [
         ("&a_-9 x", 0, "anchor 615f2d39 0:0:0 5:0:5 5:0:5 false"),
         ("*Z]", 1, "alias 5a 0:0:0 2:0:2 2:0:2 false"),
         (
@@ -1425,7 +1428,8 @@ fn names_and_tags_read(rt: HostRuntime) -> Result<(), Fail> {
             "while parsing a tag 0:0:0; did not find URI escaped octet 2:0:2",
         ),
     ];
-    for (text, depth, want) in rows {
+    let alloc = rt.alloc();
+    for (text, depth, want) in ROWS {
         let shown = named_read(alloc, text.as_bytes(), depth)?;
         assert_eq!(rt; shown.as_str(), want, "{text}");
     }
@@ -1443,13 +1447,13 @@ fn refusal_of_memory(rt: HostRuntime) -> Result<(), Fail> {
 /// The stream end is at the start of a line: that of the end, or the next one.
 #[test]
 fn stream_ends_read(rt: HostRuntime) -> Result<(), Fail> {
-    let alloc = rt.alloc();
-    let rows: [(&str, usize, &str); 3] = [
+    const ROWS: [(&str, usize, &str); 3] = [
         ("", 0, "end 0:0:0 0:0:0 0:0:0 false"),
         ("a", 1, "end 1:1:0 1:1:0 1:1:0 false"),
         ("a\n", 2, "end 2:1:0 2:1:0 2:1:0 false"),
     ];
-    for (text, index, want) in rows {
+    let alloc = rt.alloc();
+    for (text, index, want) in ROWS {
         let shown = stream_end_read(alloc, text.as_bytes(), index)?;
         assert_eq!(rt; shown.as_str(), want, "{text}");
     }
@@ -1459,8 +1463,7 @@ fn stream_ends_read(rt: HostRuntime) -> Result<(), Fail> {
 /// Lexemes of one character, each kind of them, and kinds of more than one.
 #[test]
 fn characters_read(rt: HostRuntime) -> Result<(), Fail> {
-    let alloc = rt.alloc();
-    let rows: [(&str, bool, &str); 14] = [
+    const ROWS: [(&str, bool, &str); 14] = [
         ("--- a", false, "document start 0:0:0 3:0:3 3:0:3 false"),
         ("---\n", true, "document start 0:0:0 3:0:3 3:0:3 false"),
         ("...", false, "document end 0:0:0 3:0:3 3:0:3 false"),
@@ -1476,7 +1479,8 @@ fn characters_read(rt: HostRuntime) -> Result<(), Fail> {
         (":a", true, "value 0:0:0 1:0:1 1:0:1 false"),
         ("a", false, "no character"),
     ];
-    for (text, in_flow, want) in rows {
+    let alloc = rt.alloc();
+    for (text, in_flow, want) in ROWS {
         let shown = character_read(alloc, text.as_bytes(), in_flow)?;
         assert_eq!(rt; shown.as_str(), want, "{text}");
     }
@@ -1487,8 +1491,7 @@ fn characters_read(rt: HostRuntime) -> Result<(), Fail> {
 /// flow alone; and nothing after a gap, or of another kind.
 #[test]
 fn deciders(rt: HostRuntime) -> Result<(), Fail> {
-    let alloc = rt.alloc();
-    let rows: [(&str, bool, Option<yaml_lexeme_kind_t>); 17] = [
+    const ROWS: [(&str, bool, Option<yaml_lexeme_kind_t>); 17] = [
         (": a", false, Some(yaml_lexeme_kind_t::VALUE)),
         (":\na", false, Some(yaml_lexeme_kind_t::VALUE)),
         (":", false, Some(yaml_lexeme_kind_t::VALUE)),
@@ -1507,7 +1510,8 @@ fn deciders(rt: HostRuntime) -> Result<(), Fail> {
         ("? a", true, None),
         ("", true, None),
     ];
-    for (text, in_flow, want) in rows {
+    let alloc = rt.alloc();
+    for (text, in_flow, want) in ROWS {
         let found = decider_at(alloc, text.as_bytes(), in_flow)?;
         assert!(rt; found == want, "{text}");
     }

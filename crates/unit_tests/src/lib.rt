@@ -1,7 +1,7 @@
 //! The tests of `yaml_scan`.
 //!
 //! They are a crate of their own: the gate would prove that crate, or the program `testbench`, once more if the tests
-//! were theirs. Only the test of a field of `yaml_scan` is there.
+//! were theirs.
 #![tactic(auto)]
 
 #[cfg(test)]
@@ -12,3 +12,5 @@ mod deep_tests;
 mod kept_tests;
 #[cfg(test)]
 mod parser_tests;
+#[cfg(test)]
+mod slot_tests;

@@ -43,7 +43,7 @@ fn expect_types(
 
 #[test]
 fn groups_of_a_mapping(rt: HostRuntime) -> Result<(), Fail> {
-    let types = [
+    const TYPES: [yaml_token_type_t; 8] = [
         yaml_token_type_t::YAML_STREAM_START_TOKEN,
         yaml_token_type_t::YAML_BLOCK_MAPPING_START_TOKEN,
         yaml_token_type_t::YAML_KEY_TOKEN,
@@ -53,13 +53,13 @@ fn groups_of_a_mapping(rt: HostRuntime) -> Result<(), Fail> {
         yaml_token_type_t::YAML_BLOCK_END_TOKEN,
         yaml_token_type_t::YAML_STREAM_END_TOKEN,
     ];
-    expect_types(&rt, b"a: 1", &types)
+    expect_types(&rt, b"a: 1", &TYPES)
 }
 
 /// A flow end that closes nothing leaves the depth at 0, so the level of the block ends with the stream.
 #[test]
 fn depth_is_never_below_zero(rt: HostRuntime) -> Result<(), Fail> {
-    let types = [
+    const TYPES: [yaml_token_type_t; 7] = [
         yaml_token_type_t::YAML_STREAM_START_TOKEN,
         yaml_token_type_t::YAML_BLOCK_SEQUENCE_START_TOKEN,
         yaml_token_type_t::YAML_BLOCK_ENTRY_TOKEN,
@@ -68,13 +68,13 @@ fn depth_is_never_below_zero(rt: HostRuntime) -> Result<(), Fail> {
         yaml_token_type_t::YAML_BLOCK_END_TOKEN,
         yaml_token_type_t::YAML_STREAM_END_TOKEN,
     ];
-    expect_types(&rt, b"- ]]", &types)
+    expect_types(&rt, b"- ]]", &TYPES)
 }
 
 /// A key is allowed after `-` and `?`, so blocks begin on their lines.
 #[test]
 fn allowed_keys_after_indicators(rt: HostRuntime) -> Result<(), Fail> {
-    let types = [
+    const TYPES: [yaml_token_type_t; 9] = [
         yaml_token_type_t::YAML_STREAM_START_TOKEN,
         yaml_token_type_t::YAML_BLOCK_SEQUENCE_START_TOKEN,
         yaml_token_type_t::YAML_BLOCK_ENTRY_TOKEN,
@@ -85,12 +85,12 @@ fn allowed_keys_after_indicators(rt: HostRuntime) -> Result<(), Fail> {
         yaml_token_type_t::YAML_BLOCK_END_TOKEN,
         yaml_token_type_t::YAML_STREAM_END_TOKEN,
     ];
-    expect_types(&rt, b"- ? a", &types)
+    expect_types(&rt, b"- ? a", &TYPES)
 }
 
 #[test]
 fn levels_close_at_a_lesser_column(rt: HostRuntime) -> Result<(), Fail> {
-    let types = [
+    const TYPES: [yaml_token_type_t; 17] = [
         yaml_token_type_t::YAML_STREAM_START_TOKEN,
         yaml_token_type_t::YAML_BLOCK_MAPPING_START_TOKEN,
         yaml_token_type_t::YAML_KEY_TOKEN,
@@ -109,7 +109,7 @@ fn levels_close_at_a_lesser_column(rt: HostRuntime) -> Result<(), Fail> {
         yaml_token_type_t::YAML_BLOCK_END_TOKEN,
         yaml_token_type_t::YAML_STREAM_END_TOKEN,
     ];
-    expect_types(&rt, b"a:\n  b: 1\nc: 2", &types)
+    expect_types(&rt, b"a:\n  b: 1\nc: 2", &TYPES)
 }
 
 /// The type of the token that a scan takes (`s`) or a peek shows (`p`); a skip (`k`) has none.

@@ -1,6 +1,7 @@
-//! The counter of the slots that hold no key. Only here its value can be seen: no contract of a public call names it.
-use crate::parser::{yaml_parser_peek, yaml_parser_scan, yaml_parser_t};
+//! The counter over the key slots.
 use std::test::Fail;
+use yaml_scan::laws::depths_passed;
+use yaml_scan::{yaml_parser_peek, yaml_parser_scan, yaml_parser_t};
 use yaml_text::{yaml_encoding_t, yaml_token_type_t};
 
 /// The lowest slot is that of `[`, which is no key any more after the line break: so the counter rises past it.
@@ -14,7 +15,7 @@ fn counter_rises_past_a_stale_slot(rt: HostRuntime) -> Result<(), Fail> {
         }
         Err(_) => return Err("a fault".into()),
     }
-    assert_eq!(rt; parser.state.slots.empty_below, 0);
+    assert_eq!(rt; depths_passed(&parser), 0);
     match yaml_parser_peek(&mut parser) {
         Ok(token) => {
             assert_eq!(rt;
@@ -24,6 +25,6 @@ fn counter_rises_past_a_stale_slot(rt: HostRuntime) -> Result<(), Fail> {
         }
         Err(_) => return Err("a fault".into()),
     }
-    assert_eq!(rt; parser.state.slots.empty_below, 1);
+    assert_eq!(rt; depths_passed(&parser), 1);
     Ok(())
 }

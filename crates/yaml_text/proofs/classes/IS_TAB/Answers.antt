@@ -1,0 +1,9 @@
+use Rattle.std.proofs.Common.{rules, ◌∙◌}
+use Rattle.yaml_text.proofs.Characters.ClassTables.{tab_law}
+use Rattle.yaml_text.proofs.classes.IS_TAB.Goals as goal
+
+pub returns-clause-bytes : goal.returns-clause-bytes
+returns-clause-bytes c = search rules
+
+pub returns-clause-character : goal.returns-clause-character
+returns-clause-character c = λ char stands. returns-clause-bytes c ∙ tab_law _ _ char stands
