@@ -236,12 +236,10 @@ def refused_by_none(path, names):
 def check_edits():
     code = set(re.findall(r"\bfn (\w+)", "".join(read(path) for path in found("crates/*/src/**/*.rt"))))
     edits = {f"wrong/{name}" for name in names_of("tests/wrong/*.edit")}
-    numbered = found("crates/*/must-fail/*.edit")
-    edits |= {f"{path.split('/')[1]}/{edit_name(path)}" for path in numbered}
+    edits |= {f"{path.split('/')[1]}/{edit_name(path)}" for path in found("crates/*/must-fail/*.edit")}
     lines = {line.split("\t")[0] for line in read("tests/edits.txt").split("\n") if line and not line.startswith("#")}
     wrong = [f"edits.txt: {name} is missing" for name in sorted(edits - lines)]
     wrong += [f"edits.txt: {name} is gone" for name in sorted(lines - edits)]
-    wrong += [f"{path}: no number of three digits is in front" for path in numbered if not re.search(r"/[0-9]{3}-\w+\.edit$", path)]
     for line in read("tests/twins.txt").split("\n"):
         name, *texts = line.split("\t")
         if line and not line.startswith("#"):

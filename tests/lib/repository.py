@@ -2,7 +2,6 @@
 
 import glob
 import os
-import re
 
 TOP = os.path.dirname(os.path.dirname(os.path.dirname(os.path.abspath(__file__))))
 
@@ -18,15 +17,15 @@ def found(pattern):
 
 
 def edit_name(path):
-    """The name of an edit: that of its file, without the number in front, which says when the gate tries it."""
-    return re.sub(r"^[0-9]+-", "", os.path.basename(path)[: -len(".edit")])
+    """The name of an edit: that of its file."""
+    return os.path.basename(path)[: -len(".edit")]
 
 
 def edit_file(name):
     """The file of the edit CRATE/NAME, or of wrong/NAME, a mistake that no contract excludes."""
     crate, _, edit = name.partition("/")
     folder = "tests/wrong" if crate == "wrong" else f"crates/{crate}/must-fail"
-    return next(path for path in found(f"{folder}/*.edit") if edit_name(path) == edit)
+    return f"{folder}/{edit}.edit"
 
 
 def between(text, begin, lines, end):
