@@ -1,4 +1,4 @@
-use Rattle.std.proofs.Common.{ℕ, List, subst, sym, ◌∙◌}
+use Rattle.std.proofs.Common.{ℕ, List, subst, sym, ◌∙◌, rules}
 use Rattle.std.specs.Prelude.{Option}
 use Rattle.yaml_scan.specs.inside.Slots.{Held, AreEmptyBelow, nested_outer}
 use Rattle.yaml_scan.proofs.RunningQueue.EmptySlots.{nested_empty}
@@ -8,3 +8,6 @@ pub count_empty-empty-requires : goal.count_empty-empty-requires
 count_empty-empty-requires c = let hs = c.give_up_stale-below.new.slots.items in
     subst (λ (os : List (Option Held)). AreEmptyBelow c.give_up_stale-below.result os) (sym (c.deref.ensures.value ∙ c.nest.ensures.outer))
     (subst (λ (n : ℕ). AreEmptyBelow n (nested_outer c.args.step.kind hs c.give_up.new.slot)) (sym c.give_up_stale-below.ensures.empty) (nested_empty c.args.step.kind hs c.give_up.new.slot))
+
+pub returns-then-not-is_flow_start-clause-empty : goal.returns-then-not-is_flow_start-clause-empty
+returns-then-not-is_flow_start-clause-empty c = search rules
