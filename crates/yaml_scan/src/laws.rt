@@ -236,8 +236,8 @@ pub fn calls_in_turn()
     ensures session { CallsAreSession }
 {}
 
-/// Returns how many of the lowest flow depths, below that of the last step, have no candidate for a key. A parser counts
-/// them, so that no step looks at their slots again. After the session is over it returns 0.
+/// Returns how many of the lowest flow depths, below that of the last step, have no candidate for a key. A parser
+/// counts them, so that no step looks at their slots again. After the session is over it returns 0.
 pub fn depths_passed(parser: &yaml_parser_t) -> usize
     ensures { result ≡ parser_passed parser.now }
 {
