@@ -1,8 +1,8 @@
 """The picture of docs/ARCHITECTURE.md: the crates in layers, and the modules that a byte of an input goes through.
 
-The crates and what each uses are those of crates.txt. The way begins at a call that the program makes, and goes from a function to those
-that its body calls, in their order. The `use` lines say in which module each is. A module stands below the one that calls it
-first, with the functions that this one calls. Chosen by hand are the call, the functions of other commands, which are left out,
+The crates and what each uses are those of crates.txt. The way begins at a call that the program makes, and goes from a
+function to those that its body calls, in their order. The `use` lines say in which module each is. A module stands below the
+one that calls it first, with the functions that this one calls. Chosen by hand are the call, the functions of other commands, which are left out,
 and the modules that are shown; what is between them is followed and not shown.
 """
 
