@@ -53,7 +53,7 @@ fn read_all<R: yaml_source_t>(alloc: Global, reader: &mut R) -> Result<Vec<u8>, 
 
 /// Writes all the bytes, in as many calls as it takes. After an `Err` only a beginning of them, which is not
 /// all, was written.
-pub fn write_all<W: yaml_sink_t>(writer: &mut W, bytes: &[u8]) -> Result<(), tool_fault_t>
+pub(crate) fn write_all<W: yaml_sink_t>(writer: &mut W, bytes: &[u8]) -> Result<(), tool_fault_t>
     requires { W.failed writer.old ≡ false }
     ensures all { OnOk result (Appends (W.contents writer.old) (W.contents writer.new) bytes.now) }
     ensures part { OnErr result ((count : ℕ)
