@@ -330,7 +330,7 @@ def check_versions():
     places = {
         "CHANGELOG.md": r"^## (\S+), \d{4}-\d\d-\d\d$",
         "ffi/bogzhami.h": r'^#define BOGZHAMI_VERSION "(.*)"$',
-        "crates/yamltok/specs/Note.antt": r'^note_text Version = codes "yamltok \(Bogzhami\) (.*)\\n"$',
+        "crates/yaml_listing/specs/Note.antt": r'^note_text Version = codes "yamltok \(Bogzhami\) (.*)\\n"$',
         "rust/Cargo.toml": r'^version = "(.*)"$',
         "python/bogzhami/__init__.py": r'^__version__ = "(.*)"$',
     }

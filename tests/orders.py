@@ -359,7 +359,7 @@ def try_words(copy):
 
 def try_jobs(copy):
     """How many functions are proved at once, by a variable that each command that proves reads, and by none."""
-    tried = {"./run scan any": ["check"] * 4 + ["run"], "ffi/build": ["lib"], "./dev check yaml_text": ["check"]}
+    tried = {"./run scan any": ["check"] * 5 + ["run"], "ffi/build": ["lib"], "./dev check yaml_text": ["check"]}
     wrong = []
     for more, jobs in (({}, []), ({"RT_JOBS": "3"}, ["--jobs", "3"])):
         for command, verbs in tried.items():

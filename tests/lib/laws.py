@@ -12,8 +12,9 @@ from folders import sentence
 from repository import between, found, read
 
 PROMISES = "docs/PROMISES.md"
-CRATES = ["yaml_text", "yaml_lexeme", "yaml_scan", "yaml_c", "yamltok", "lexeme_tests", "testbench", "unit_tests", "workloads"]
-OF_TESTS = ["lexeme_tests", "testbench", "unit_tests", "workloads"]  # they promise nothing to others
+CRATES = ["yaml_text", "yaml_lexeme", "yaml_scan", "yaml_c", "yaml_listing", "yamltok", "lexeme_tests", "listing_tests",
+          "testbench", "unit_tests", "workloads"]
+OF_TESTS = ["lexeme_tests", "listing_tests", "testbench", "unit_tests", "workloads"]  # they promise nothing to others
 FUNCTION = re.compile(r'((?:^ *///.*\n)*)((?:^ *#\[.*\n)*)^ *pub (?:unsafe )?(?:extern "C" )?fn (\w+)', re.M)
 IMPORT = re.compile(r"^use Rattle\.(\w+)\.proofs\.([\w.]+)", re.M)
 USING = re.compile(r"crate::proofs::((?:\w+::)*\w+)::\w+")
@@ -94,7 +95,7 @@ def exported(crate):
     library = f"crates/{crate}/src/lib.rt"
     paths = [path for path in found(f"crates/{crate}/src/*.rt") if not re.search(r"(tests|laws)\.rt$", path)]
     if found(library):
-        names = set(re.findall(r"^pub use (\w+)::", read(library), re.M)) | {"lib"}
+        names = set(re.findall(r"^pub (?:use|mod) (\w+)", read(library), re.M)) | {"lib"}
         paths = [path for path in paths if os.path.basename(path)[:-3] in names]
     return paths
 

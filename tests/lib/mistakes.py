@@ -46,7 +46,7 @@ pub fn choose_mistake(number: u32) {
     choose_that_mistake(number)
 }
 """
-# The crate that has these functions: each other crate uses it.
+# The crate that has these functions: each other crate that has edits or tests uses it.
 LOWEST = "yaml_text"
 MOST_NUMBERS = 255
 

@@ -1,8 +1,8 @@
 """The picture of docs/ARCHITECTURE.md: the crates in layers, and the modules that a byte of an input goes through.
 
-The crates and what each uses are those of crates.txt. The way begins at a call of a program, and goes from a function to those
-that its body calls, in their order. The `use` lines say in which module each is. A module stands below the one that calls it
-first, with the functions that this one calls. Chosen by hand are the call, the functions of other commands, which are left out,
+The crates and what each uses are those of crates.txt. The way begins at a call that the program makes, and goes from a
+function to those that its body calls, in their order. The `use` lines say in which module each is. A module stands below the
+one that calls it first, with the functions that this one calls. Chosen by hand are the call, the functions of other commands, which are left out,
 and the modules that are shown; what is between them is followed and not shown.
 """
 
@@ -13,10 +13,10 @@ import re
 from repository import between, found, read
 
 BEGIN, END = "<!-- drawn by ./dev folders -->", "<!-- end of what is drawn -->"
-CALL = ("yamltok", "run", "run")
-LEFT_OUT = {("yamltok", "answer", "list_decoded"), ("yamltok", "answer", "list_called")}
+CALL = ("yaml_listing", "run", "run")
+LEFT_OUT = {("yaml_listing", "answer", "list_decoded"), ("yaml_listing", "answer", "list_called")}
 SHOWN = {
-    "yamltok": "run answer line put",
+    "yaml_listing": "run answer line put",
     "yaml_scan": "give parser step source layout groups sink",
     "yaml_lexeme": "gap kind lex plain place runs",
     "yaml_text": "decode ascii blocks",
@@ -54,7 +54,7 @@ def layer_lines():
     every = uses()
     for number, layer in enumerate(layers()):
         yield from ["      |", "      v"] if number else []
-        yield from (f"{crate:<13}{'uses ' + ', '.join(every[crate]) if every[crate] else ''}".rstrip() for crate in layer)
+        yield from (f"{crate:<14}{'uses ' + ', '.join(every[crate]) if every[crate] else ''}".rstrip() for crate in layer)
 
 
 # CODE
@@ -158,7 +158,7 @@ def way_lines(below, functions, place=None, depth=0):
     for crate, name in below[place]:
         names = list(functions[crate, name])
         more = ", .." if len(names) > MOST_FUNCTIONS else ""
-        yield f"{crate:<13}{'. ' * depth + name:<24}{', '.join(names[:MOST_FUNCTIONS])}{more}"
+        yield f"{crate:<14}{'. ' * depth + name:<24}{', '.join(names[:MOST_FUNCTIONS])}{more}"
         yield from way_lines(below, functions, (crate, name), depth + 1)
 
 

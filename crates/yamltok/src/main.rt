@@ -16,37 +16,13 @@
 //! failed or there was no memory for the input or the listing.
 #![tactic(auto)]
 
-mod answer;
-mod args;
-#[cfg(test)]
-mod decode_tests;
-mod devices;
-mod line;
-#[cfg(test)]
-mod line_tests;
-mod listing;
-mod mark;
-mod note;
-#[cfg(test)]
-mod note_tests;
-mod outcome;
-mod put;
-#[cfg(test)]
-mod row_tests;
-mod run;
-#[cfg(test)]
-mod scan_tests;
-#[cfg(test)]
-mod tests;
-
-use args::parse_args;
-use devices::{yaml_sink_of_t, yaml_source_of_t};
-use note::{parse_note, tell};
-use outcome::{tool_fault_t, yaml_status};
 use std::env;
 use std::env::Env;
 use std::io::ErrorKind;
 use std::process::ExitCode;
+use yaml_listing::{
+    parse_args, parse_note, run, tell, tool_fault_t, yaml_sink_of_t, yaml_source_of_t, yaml_status,
+};
 
 /// The words of the command line, without the program's name.
 fn command_words<R: Env + AllocGlobal>(rt: &R) -> Result<Vec<String>, tool_fault_t> {

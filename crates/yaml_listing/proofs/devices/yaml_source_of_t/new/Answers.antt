@@ -1,0 +1,5 @@
+use Rattle.std.proofs.Common.{rules}
+use Rattle.yaml_listing.proofs.devices.yaml_source_of_t.new.Goals as goal
+
+pub returns-clause-working : goal.returns-clause-working
+returns-clause-working g c = search rules
