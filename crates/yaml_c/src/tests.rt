@@ -216,50 +216,65 @@ fn place(rt: HostRuntime, input: &[u8], setting: u32) -> u64 {
 /// A value that the input has as it is stands at its place, after a quote, `*` or `&`.
 #[test]
 fn values_in_the_input(rt: HostRuntime) -> Result<(), Fail> {
-    assert_eq!(rt; place(rt, b"a", 0), 0);
-    assert_eq!(rt; place(rt, b"ab", 0), 0);
-    assert_eq!(rt; place(rt, b" abcde", 0), 1);
-    assert_eq!(rt; place(rt, b" abcdefghi", 0), 1);
-    assert_eq!(rt; place(rt, b" abcdefghijklmnopq", 0), 1);
-    assert_eq!(rt; place(rt, b"# c\n ab # d", 0), 5);
-    assert_eq!(rt; place(rt, b" 'ab'", 0), 2);
-    assert_eq!(rt; place(rt, b" \"ab\"", 0), 2);
-    assert_eq!(rt; place(rt, b"'ab'''", 0), 1);
-    assert_eq!(rt; place(rt, b" ''", 0), 2);
-    assert_eq!(rt; place(rt, b" &ab", 0), 2);
-    assert_eq!(rt; place(rt, b" *ab", 0), 2);
+    const ROWS: [(&[u8], u64); 12] = [
+        (b"a", 0),
+        (b"ab", 0),
+        (b" abcde", 1),
+        (b" abcdefghi", 1),
+        (b" abcdefghijklmnopq", 1),
+        (b"# c\n ab # d", 5),
+        (b" 'ab'", 2),
+        (b" \"ab\"", 2),
+        (b"'ab'''", 1),
+        (b" ''", 2),
+        (b" &ab", 2),
+        (b" *ab", 2),
+    ];
+    for (input, at) in ROWS {
+        assert_eq!(rt; place(rt, input, 0), at, "{input:?}");
+    }
     Ok(())
 }
 
 /// A value that the input has not as it is stands nowhere, nor do the texts of other tokens.
 #[test]
 fn values_that_are_not_in_the_input(rt: HostRuntime) -> Result<(), Fail> {
-    assert_eq!(rt; place(rt, b"\"a\\tb\"", 0), u64::MAX);
-    assert_eq!(rt; place(rt, b"'a''b'", 0), u64::MAX);
-    assert_eq!(rt; place(rt, b"\"a\n b\"", 0), u64::MAX);
-    assert_eq!(rt; place(rt, b"a\n b", 0), u64::MAX);
-    assert_eq!(rt; place(rt, b"a\n bcdefgh", 0), u64::MAX);
-    assert_eq!(rt; place(rt, b"abcde\n fgh", 0), u64::MAX);
-    assert_eq!(rt; place(rt, b"abcdefghijklmn\n opq", 0), u64::MAX);
-    assert_eq!(rt; place(rt, b"|\n ab", 0), u64::MAX);
-    assert_eq!(rt; place(rt, b">\n ab", 0), u64::MAX);
-    assert_eq!(rt; place(rt, b"!ab", 0), u64::MAX);
-    assert_eq!(rt; place(rt, b"%TAG !a! b\n---", 0), u64::MAX);
-    assert_eq!(rt; place(rt, b"--- a", 0), u64::MAX);
+    const ROWS: [&[u8]; 12] = [
+        b"\"a\\tb\"",
+        b"'a''b'",
+        b"\"a\n b\"",
+        b"a\n b",
+        b"a\n bcdefgh",
+        b"abcde\n fgh",
+        b"abcdefghijklmn\n opq",
+        b"|\n ab",
+        b">\n ab",
+        b"!ab",
+        b"%TAG !a! b\n---",
+        b"--- a",
+    ];
+    for input in ROWS {
+        assert_eq!(rt; place(rt, input, 0), u64::MAX, "{input:?}");
+    }
     Ok(())
 }
 
 /// A byte order mark comes before the text, whether it is dropped or not. In UTF-16 no value stands in the input.
 #[test]
 fn values_in_other_encodings(rt: HostRuntime) -> Result<(), Fail> {
-    assert_eq!(rt; place(rt, b"\xEF\xBB\xBFab", 0), 3);
-    assert_eq!(rt; place(rt, b"\xEF\xBB\xBFab", 1), 3);
-    assert_eq!(rt; place(rt, b"ab", 1), 0);
-    assert_eq!(rt; place(rt, b"\xFF\xFEa\0", 0), u64::MAX);
-    assert_eq!(rt; place(rt, b"\xFE\xFF\0a", 0), u64::MAX);
-    assert_eq!(rt; place(rt, b"\xFF\xFE'\0'\0", 0), u64::MAX);
-    assert_eq!(rt; place(rt, b"a\0", 2), u64::MAX);
-    assert_eq!(rt; place(rt, b"\0a", 3), u64::MAX);
+    const ROWS: [(&[u8], u32, u64); 8] = [
+        (b"\xEF\xBB\xBFab", 0, 3),
+        (b"\xEF\xBB\xBFab", 1, 3),
+        (b"ab", 1, 0),
+        (b"\xFF\xFEa\0", 0, u64::MAX),
+        (b"\xFE\xFF\0a", 0, u64::MAX),
+        (b"\xFF\xFE'\0'\0", 0, u64::MAX),
+        (b"a\0", 2, u64::MAX),
+        (b"\0a", 3, u64::MAX),
+    ];
+    for (input, setting, at) in ROWS {
+        assert_eq!(rt; place(rt, input, setting), at, "{input:?}");
+    }
     Ok(())
 }
 

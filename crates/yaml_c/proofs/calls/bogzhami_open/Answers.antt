@@ -1,4 +1,4 @@
-use Rattle.std.proofs.Common.{◌≡◌, sym, subst}
+use Rattle.std.proofs.Common.{rules, ◌≡◌, sym, subst}
 use Rattle.yaml_text.specs.declared.types.yaml_encoding_t.{yaml_encoding_t}
 use Rattle.yaml_c.specs.Held.{IsAt, opened}
 use Rattle.yaml_c.specs.declared.held.held_t.{held_t}
@@ -12,3 +12,12 @@ returns-in-Ok-clause-opened c = λ e. (
       subst (λ (h : held_t). IsAt (opened c.args.input.now x c.args.key_limit) h) (sym c.handle_of.ensures.value)
       (subst (λ (z : yaml_encoding_t). IsAt (opened c.args.input.now z c.args.key_limit) c.in-Ok.held.value) same c.in-Ok.ensures),
 )
+
+pub returns-in_default-clause-closed : goal.returns-in_default-clause-closed
+returns-in_default-clause-closed c = search rules
+
+pub returns-then-key_limit-lt1-clause-closed : goal.returns-then-key_limit-lt1-clause-closed
+returns-then-key_limit-lt1-clause-closed c = search rules
+
+pub returns-in-Err-clause-closed : goal.returns-in-Err-clause-closed
+returns-in-Err-clause-closed c = search rules

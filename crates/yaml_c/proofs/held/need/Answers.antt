@@ -1,4 +1,4 @@
-use Rattle.std.proofs.Common.{ap, sym, ◌∙◌}
+use Rattle.std.proofs.Common.{rules, ap, sym, ◌∙◌}
 use Rattle.yaml_c.specs.Next.{Next, need}
 use Rattle.yaml_c.specs.Record.{held}
 use Rattle.yaml_c.proofs.Batches.{fault_is_kept, next_is_fault}
@@ -11,3 +11,6 @@ returns-in-Some-fault c = λ p a k h.
 
 pub returns-in-None-fault : goal.returns-in-None-fault
 returns-in-None-fault c = λ p a k h. absurd (fault_is_kept p _ a h c.in-FAULT.is (c.in-None-fault.ensures p k))
+
+pub returns-in-Some : goal.returns-in-Some
+returns-in-Some c = search rules

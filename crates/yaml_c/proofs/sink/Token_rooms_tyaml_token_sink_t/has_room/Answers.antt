@@ -16,3 +16,6 @@ returns-then-count-records-clause-room c = λ e within tokens after few short pu
       few = omega (arith, p.token_count, q.0, within.few, few, c.if-count-records.true, c.saturating_sub-records.ensures);
       fit = omega (arith, p.text_len, q.1, within.fit, short, t, n, c.saturating_sub-bytes.ensures);
     }
+
+pub returns-else-count-records-clause-lack : goal.returns-else-count-records-clause-lack
+returns-else-count-records-clause-lack c = search rules
