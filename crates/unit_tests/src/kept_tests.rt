@@ -243,8 +243,8 @@ fn gives_the_next(held: &mut held_t, right: &mut yaml_parser_t, shelf: &mut shel
     yaml_parser_scan(right).is_ok() && !faulty
 }
 
-/// Gives so many tokens of an input to a sink, one by one, each after it was shown twice. Returns how many it got if all
-/// are right and none is left.
+/// Gives so many tokens of an input to a sink, one by one, each after it was shown twice. Returns how many it got if
+/// all are right and none is left.
 fn peeked_and_given(alloc: Global, input: &[u8], count: usize) -> Result<usize, Fail> {
     let mut held = held_t::new(alloc, input);
     let mut right = yaml_parser_t::new(alloc, input, ANY);
