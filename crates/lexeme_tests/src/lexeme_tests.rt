@@ -696,6 +696,30 @@ fn push_letters(text: &mut String, letter: &str, count: u64) -> Result<(), Fail>
     Ok(())
 }
 
+/// So many x, what is between, and so many y, with a text at each end.
+fn joined(
+    alloc: Global,
+    ends: (&str, &str),
+    between: &str,
+    sizes: (u64, u64),
+) -> Result<String, Fail> {
+    let ((first, last), (front, back)) = (ends, sizes);
+    let mut text = String::from_str(alloc, first)?;
+    push_letters(&mut text, "x", front)?;
+    text.push_str(between)?;
+    push_letters(&mut text, "y", back)?;
+    text.push_str(last)?;
+    Ok(text)
+}
+
+/// The line of a scalar that starts at the front of a text: its style, its value, and its end.
+fn scalar_line(alloc: Global, style: &str, value: &str, end: yaml_mark_t) -> Result<String, Fail> {
+    let bytes = show_bytes(alloc, value.as_bytes())?;
+    let end = show_mark(alloc, end)?;
+    let (bytes, end) = (bytes.as_str(), end.as_str());
+    Ok(format!(in alloc; "{style} {bytes} 0:0:0 {end} {end} false")?)
+}
+
 /// Compares a plain scalar of x, a break or one character, and y with what is wanted. `kept` is what the scalar keeps
 /// of what is between.
 fn expect_between(
@@ -706,25 +730,20 @@ fn expect_between(
 ) -> Result<(), Fail> {
     let (between, kept, broken) = row;
     let (front, back) = sizes;
-    let (mut text, mut value) = (String::new(alloc), String::new(alloc));
-    push_letters(&mut text, "x", front)?;
-    push_letters(&mut value, "x", front)?;
-    text.push_str(between)?;
-    value.push_str(kept)?;
-    push_letters(&mut text, "y", back)?;
-    push_letters(&mut value, "y", back)?;
-    let shown = lexed(alloc, text.as_bytes(), 0, None)?;
-    let index = text.as_bytes().len();
+    let text = joined(alloc, ("", ""), between, sizes)?;
+    let value = joined(alloc, ("", ""), kept, sizes)?;
     let (line, column) = if broken {
         (1, back)
     } else {
         (0, front.saturating_add(back).saturating_add(1))
     };
-    let bytes = show_bytes(alloc, value.as_bytes())?;
-    let bytes = bytes.as_str();
-    let end = format!(in alloc; "{index}:{line}:{column}")?;
-    let end = end.as_str();
-    let want = format!(in alloc; "plain {bytes} 0:0:0 {end} {end} false")?;
+    let end = yaml_mark_t {
+        index: text.as_bytes().len() as u64,
+        line,
+        column,
+    };
+    let want = scalar_line(alloc, "plain", value.as_str(), end)?;
+    let shown = lexed(alloc, text.as_bytes(), 0, None)?;
     assert_eq!(rt; shown.as_str(), want.as_str(), "{front} {back}");
     Ok(())
 }
@@ -879,25 +898,16 @@ fn expect_lines(
 ) -> Result<(), Fail> {
     let (between, kept, folded, line) = row;
     let (front, back) = sizes;
-    for (sign, name, kept) in [("|", "literal", kept), (">", "folded", folded)] {
-        let (mut text, mut value) = (String::new(alloc), String::new(alloc));
-        text.push_str(sign)?;
-        text.push_str("\n ")?;
-        push_letters(&mut text, "x", front)?;
-        push_letters(&mut value, "x", front)?;
-        text.push_str(between)?;
-        value.push_str(kept)?;
-        push_letters(&mut text, "y", back)?;
-        push_letters(&mut value, "y", back)?;
-        text.push_str("\n")?;
-        value.push_str("\n")?;
+    for (first, style, kept) in [("|\n ", "literal", kept), (">\n ", "folded", folded)] {
+        let text = joined(alloc, (first, "\n"), between, sizes)?;
+        let value = joined(alloc, ("", "\n"), kept, sizes)?;
+        let end = yaml_mark_t {
+            index: text.as_bytes().len() as u64,
+            line,
+            column: 0,
+        };
+        let want = scalar_line(alloc, style, value.as_str(), end)?;
         let shown = lexed(alloc, text.as_bytes(), 0, None)?;
-        let index = text.as_bytes().len();
-        let bytes = show_bytes(alloc, value.as_bytes())?;
-        let bytes = bytes.as_str();
-        let end = format!(in alloc; "{index}:{line}:0")?;
-        let end = end.as_str();
-        let want = format!(in alloc; "{name} {bytes} 0:0:0 {end} {end} false")?;
         assert_eq!(rt; shown.as_str(), want.as_str(), "{front} {back}");
     }
     Ok(())

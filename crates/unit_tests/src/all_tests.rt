@@ -1,4 +1,5 @@
 //! All tokens in one call, and lists of calls.
+use std::alloc::{AllocError, Global};
 use std::test::Fail;
 use yaml_scan::{
     yaml_answer_t, yaml_call_t, yaml_parser_t, yaml_run, yaml_scan_all, yaml_scan_all_limit,
@@ -21,22 +22,37 @@ fn all_tokens_and_the_fault(rt: HostRuntime) -> Result<(), Fail> {
     Ok(())
 }
 
+/// The answers to a list of calls on a new parser.
+fn answers_to(
+    alloc: Global,
+    input: &[u8],
+    calls: &[yaml_call_t],
+) -> Result<Vec<yaml_answer_t>, AllocError> {
+    let mut parser = yaml_parser_t::new(alloc, input, ANY);
+    let mut answers = Vec::new(alloc);
+    yaml_run(&mut parser, calls, &mut answers)?;
+    Ok(answers)
+}
+
+/// A letter for an answer.
+fn letter(answer: &yaml_answer_t) -> char {
+    match answer {
+        yaml_answer_t::TOKEN(token) if *token == yaml_token_t::empty() => 'e',
+        yaml_answer_t::TOKEN(_) => 't',
+        yaml_answer_t::PEEKED(_, _, _) => 'p',
+        yaml_answer_t::SKIPPED => 'k',
+        yaml_answer_t::NOTHING => 'n',
+        yaml_answer_t::FAULT(_) => 'f',
+    }
+}
+
 #[test]
 fn calls_and_their_answers(rt: HostRuntime) -> Result<(), Fail> {
-    let mut parser = yaml_parser_t::new(rt.alloc(), b"[a]", ANY);
     let (s, p, k) = (yaml_call_t::SCAN, yaml_call_t::PEEK, yaml_call_t::SKIP);
-    let mut answers = Vec::new(rt.alloc());
-    yaml_run(&mut parser, &[p, p, k, s, k, p, s, s, s, s], &mut answers)?;
+    let answers = answers_to(rt.alloc(), b"[a]", &[p, p, k, s, k, p, s, s, s, s])?;
     let mut shown = String::new(rt.alloc());
     for answer in &answers {
-        shown.push(match answer {
-            yaml_answer_t::TOKEN(token) if *token == yaml_token_t::empty() => 'e',
-            yaml_answer_t::TOKEN(_) => 't',
-            yaml_answer_t::PEEKED(_, _, _) => 'p',
-            yaml_answer_t::SKIPPED => 'k',
-            yaml_answer_t::NOTHING => 'n',
-            yaml_answer_t::FAULT(_) => 'f',
-        })?;
+        shown.push(letter(answer))?;
     }
     assert_eq!(rt; shown.as_str(), "ppktnpttte");
     match answers.first() {

@@ -217,30 +217,58 @@ fn no_token_goes_where_there_is_no_room(rt: HostRuntime) -> Result<(), Fail> {
     Ok(())
 }
 
+/// Shows the next token. Returns whether it is the one that another parser shows.
+fn shows_the_next(held: &mut held_t, right: &mut yaml_parser_t) -> bool
+    requires { (p : Parser) × (p.input ≡ held.old.input.now) × IsKept p held.old.kept }
+    ensures { (p : Parser) × (p.input ≡ held.new.input.now) × IsKept p held.new.kept }
+{
+    if held.peek() {
+        return false;
+    }
+    match (held.kept.peeked(), yaml_parser_peek(right)) {
+        (Some(shown), Ok(want)) => shown == want,
+        _ => false,
+    }
+}
+
+/// Gives the next token to a sink that has room for one. Returns whether there is no fault, here or in another parser
+/// that takes a token too.
+fn gives_the_next(held: &mut held_t, right: &mut yaml_parser_t, shelf: &mut shelf_t) -> bool
+    requires { (p : Parser) × (p.input ≡ held.old.input.now) × IsKept p held.old.kept }
+    ensures { (p : Parser) × (p.input ≡ held.new.input.now) × IsKept p held.new.kept }
+{
+    shelf.room = 1;
+    shelf.texts = 1000;
+    let faulty = held.scan_to(shelf);
+    yaml_parser_scan(right).is_ok() && !faulty
+}
+
+/// Gives so many tokens of an input to a sink, one by one, each after it was shown twice. Returns how many it got if
+/// all are right and none is left.
+fn peeked_and_given(alloc: Global, input: &[u8], count: usize) -> Result<usize, Fail> {
+    let mut held = held_t::new(alloc, input);
+    let mut right = yaml_parser_t::new(alloc, input, ANY);
+    let mut shelf = shelf_t::new(alloc, input);
+    'tokens: for _ in 0..count {
+        let once = shows_the_next(&mut held, &mut right);
+        let twice = shows_the_next(&mut held, &mut right);
+        let given = gives_the_next(&mut held, &mut right, &mut shelf);
+        if !once || !twice || !given {
+            return Err("another token is shown, or a fault comes".into());
+        }
+    }
+    if shelf.wrong > 0 || !held.kept.is_over() {
+        return Err("a wrong token, or no end".into());
+    }
+    Ok(shelf.tokens)
+}
+
 /// A token is shown before each one that is taken, and twice.
 #[test]
 fn peeked_token_is_the_next(rt: HostRuntime) -> Result<(), Fail> {
     for input in INPUTS {
-        let mut held = held_t::new(rt.alloc(), input);
-        let mut right = yaml_parser_t::new(rt.alloc(), input, ANY);
-        let mut shelf = shelf_t::new(rt.alloc(), input);
         let count = count_of(rt.alloc(), input)?;
-        'tokens: for _ in 0..count {
-            'peeks: for _ in 0..2 {
-                assert!(rt; !held.peek());
-                match (held.kept.peeked(), yaml_parser_peek(&mut right)) {
-                    (Some(shown), Ok(want)) => assert!(rt; shown == want),
-                    _ => return Err("no token".into()),
-                }
-            }
-            shelf.room = 1;
-            shelf.texts = 1000;
-            assert!(rt; !held.scan_to(&mut shelf));
-            assert!(rt; yaml_parser_scan(&mut right).is_ok());
-        }
-        assert!(rt; held.kept.is_over());
-        assert_eq!(rt; shelf.tokens, count);
-        assert_eq!(rt; shelf.wrong, 0);
+        assert_eq!(rt; peeked_and_given(rt.alloc(), input, count)?, count);
     }
     Ok(())
 }

@@ -1,4 +1,6 @@
 //! Calls of a parser.
+ghost use Rattle.std.specs.Prelude.{◌≤◌};
+
 use std::alloc::{AllocError, Global};
 use std::process::Abort;
 use std::test::Fail;
@@ -188,20 +190,34 @@ fn settled_tokens_need_few_steps(rt: HostRuntime) -> Result<(), Fail> {
     Ok(())
 }
 
+/// The types of the token that a scan of a new parser takes and of the one that a peek then shows, and how many steps
+/// are queued after both.
+fn queued_after(
+    alloc: Global,
+    input: &[u8],
+    limit: u32,
+) -> Result<(yaml_token_type_t, yaml_token_type_t, u64), Fail>
+    requires least { 1 ≤ limit }
+    requires most { limit ≤ 65536 }
+{
+    let any = yaml_encoding_t::YAML_ANY_ENCODING;
+    let mut parser = yaml_parser_t::with_key_limit(alloc, input, any, limit);
+    let taken = called(&mut parser, b's')?;
+    let shown = called(&mut parser, b'p')?;
+    Ok((taken, shown, yaml_parser_queued(&parser)))
+}
+
 #[test]
 fn keys_keep_tokens_in_the_queue(rt: HostRuntime) -> Result<(), Fail> {
-    let any = yaml_encoding_t::YAML_ANY_ENCODING;
     let mut input = Vec::new(rt.alloc());
     for _ in 0..1026 {
         input.push(b'[')?;
     }
     for (limit, queued) in [(1024, 1025), (4, 5)] {
-        let mut parser = yaml_parser_t::with_key_limit(rt.alloc(), &input, any, limit);
-        let kind = called(&mut parser, b's')?;
-        assert_eq!(rt; kind, yaml_token_type_t::YAML_STREAM_START_TOKEN);
-        let kind = called(&mut parser, b'p')?;
-        assert_eq!(rt; kind, yaml_token_type_t::YAML_FLOW_SEQUENCE_START_TOKEN);
-        assert_eq!(rt; yaml_parser_queued(&parser), queued);
+        let (taken, shown, count) = queued_after(rt.alloc(), &input, limit)?;
+        assert_eq!(rt; taken, yaml_token_type_t::YAML_STREAM_START_TOKEN);
+        assert_eq!(rt; shown, yaml_token_type_t::YAML_FLOW_SEQUENCE_START_TOKEN);
+        assert_eq!(rt; count, queued);
     }
     Ok(())
 }
@@ -209,13 +225,10 @@ fn keys_keep_tokens_in_the_queue(rt: HostRuntime) -> Result<(), Fail> {
 /// Of six flow sequences the first is no key any more after the fifth, with a key limit of 4: so five steps wait.
 #[test]
 fn six_openers_with_a_limit_of_four(rt: HostRuntime) -> Result<(), Fail> {
-    let any = yaml_encoding_t::YAML_ANY_ENCODING;
-    let mut parser = yaml_parser_t::with_key_limit(rt.alloc(), b"[[[[[[", any, 4);
-    let kind = called(&mut parser, b's')?;
-    assert_eq!(rt; kind, yaml_token_type_t::YAML_STREAM_START_TOKEN);
-    let kind = called(&mut parser, b'p')?;
-    assert_eq!(rt; kind, yaml_token_type_t::YAML_FLOW_SEQUENCE_START_TOKEN);
-    assert_eq!(rt; yaml_parser_queued(&parser), 5);
+    let (taken, shown, queued) = queued_after(rt.alloc(), b"[[[[[[", 4)?;
+    assert_eq!(rt; taken, yaml_token_type_t::YAML_STREAM_START_TOKEN);
+    assert_eq!(rt; shown, yaml_token_type_t::YAML_FLOW_SEQUENCE_START_TOKEN);
+    assert_eq!(rt; queued, 5);
     Ok(())
 }
 

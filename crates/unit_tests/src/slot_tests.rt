@@ -1,30 +1,46 @@
 //! The counter over the key slots.
+use std::alloc::Global;
 use std::test::Fail;
 use yaml_scan::laws::depths_passed;
 use yaml_scan::{yaml_parser_peek, yaml_parser_scan, yaml_parser_t};
 use yaml_text::{yaml_encoding_t, yaml_token_type_t};
 
+fn type_scanned(parser: &mut yaml_parser_t) -> Result<yaml_token_type_t, Fail> {
+    match yaml_parser_scan(parser) {
+        Ok(token) => Ok(token.type_()),
+        Err(_) => Err("a fault".into()),
+    }
+}
+
+fn type_peeked(parser: &mut yaml_parser_t) -> Result<yaml_token_type_t, Fail> {
+    match yaml_parser_peek(parser) {
+        Ok(token) => Ok(token.type_()),
+        Err(_) => Err("a fault".into()),
+    }
+}
+
+/// The types of the token that a scan of a new parser takes and of the one that a peek then shows, and the counter
+/// after each.
+fn counted(
+    alloc: Global,
+    input: &[u8],
+) -> Result<(yaml_token_type_t, usize, yaml_token_type_t, usize), Fail> {
+    let any = yaml_encoding_t::YAML_ANY_ENCODING;
+    let mut parser = yaml_parser_t::new(alloc, input, any);
+    let first = type_scanned(&mut parser)?;
+    let before = depths_passed(&parser);
+    let second = type_peeked(&mut parser)?;
+    let after = depths_passed(&parser);
+    Ok((first, before, second, after))
+}
+
 /// The lowest slot is that of `[`, which is no key any more after the line break: so the counter rises past it.
 #[test]
 fn counter_rises_past_a_stale_slot(rt: HostRuntime) -> Result<(), Fail> {
-    let any = yaml_encoding_t::YAML_ANY_ENCODING;
-    let mut parser = yaml_parser_t::new(rt.alloc(), b"[\"x\ny\", z: w]", any);
-    match yaml_parser_scan(&mut parser) {
-        Ok(token) => {
-            assert_eq!(rt; token.type_(), yaml_token_type_t::YAML_STREAM_START_TOKEN);
-        }
-        Err(_) => return Err("a fault".into()),
-    }
-    assert_eq!(rt; depths_passed(&parser), 0);
-    match yaml_parser_peek(&mut parser) {
-        Ok(token) => {
-            assert_eq!(rt;
-                token.type_(),
-                yaml_token_type_t::YAML_FLOW_SEQUENCE_START_TOKEN
-            );
-        }
-        Err(_) => return Err("a fault".into()),
-    }
-    assert_eq!(rt; depths_passed(&parser), 1);
+    let (first, before, second, after) = counted(rt.alloc(), b"[\"x\ny\", z: w]")?;
+    assert_eq!(rt; first, yaml_token_type_t::YAML_STREAM_START_TOKEN);
+    assert_eq!(rt; before, 0);
+    assert_eq!(rt; second, yaml_token_type_t::YAML_FLOW_SEQUENCE_START_TOKEN);
+    assert_eq!(rt; after, 1);
     Ok(())
 }
