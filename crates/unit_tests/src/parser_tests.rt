@@ -115,7 +115,7 @@ fn levels_close_at_a_lesser_column(rt: HostRuntime) -> Result<(), Fail> {
 }
 
 /// The type of the token that a scan takes (`s`) or a peek shows (`p`); a skip (`k`) has none.
-fn called(parser: &mut yaml_parser_t, call: u8) -> Result<yaml_token_type_t, Fail> {
+pub(crate) fn called(parser: &mut yaml_parser_t, call: u8) -> Result<yaml_token_type_t, Fail> {
     match call {
         b's' => Ok(scanned(parser)?.type_()),
         b'p' => type_peeked(parser),

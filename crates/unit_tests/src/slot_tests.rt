@@ -1,23 +1,10 @@
 //! The counter over the key slots.
+use crate::parser_tests::called;
 use std::alloc::Global;
 use std::test::Fail;
 use yaml_scan::laws::depths_passed;
-use yaml_scan::{yaml_parser_peek, yaml_parser_scan, yaml_parser_t};
+use yaml_scan::yaml_parser_t;
 use yaml_text::{yaml_encoding_t, yaml_token_type_t};
-
-fn type_scanned(parser: &mut yaml_parser_t) -> Result<yaml_token_type_t, Fail> {
-    match yaml_parser_scan(parser) {
-        Ok(token) => Ok(token.type_()),
-        Err(_) => Err("a fault".into()),
-    }
-}
-
-fn type_peeked(parser: &mut yaml_parser_t) -> Result<yaml_token_type_t, Fail> {
-    match yaml_parser_peek(parser) {
-        Ok(token) => Ok(token.type_()),
-        Err(_) => Err("a fault".into()),
-    }
-}
 
 /// The types of the token that a scan of a new parser takes and of the one that a peek then shows, and the counter
 /// after each.
@@ -27,9 +14,9 @@ fn counted(
 ) -> Result<(yaml_token_type_t, usize, yaml_token_type_t, usize), Fail> {
     let any = yaml_encoding_t::YAML_ANY_ENCODING;
     let mut parser = yaml_parser_t::new(alloc, input, any);
-    let first = type_scanned(&mut parser)?;
+    let first = called(&mut parser, b's')?;
     let before = depths_passed(&parser);
-    let second = type_peeked(&mut parser)?;
+    let second = called(&mut parser, b'p')?;
     let after = depths_passed(&parser);
     Ok((first, before, second, after))
 }
