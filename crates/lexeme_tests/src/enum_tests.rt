@@ -1,4 +1,6 @@
 //! The numbers and the order of the variants of the enums, and the words of errors and faults.
+use std::alloc::Global;
+use std::cmp::Ordering;
 use std::hash::{DefaultHasher, Hash, Hasher};
 use std::process::Abort;
 use std::test::Fail;
@@ -29,15 +31,25 @@ fn hash_of<T: Hash>(value: &T) -> u64 {
     hasher.finish()
 }
 
+/// What comparisons tell of two values: whether the first is less, their order twice, and whether they are equal and have
+/// the same hash.
+fn compared<T: Copy + Ord + Hash>(a: &T, b: &T) -> (bool, Ordering, Option<Ordering>, bool, bool) {
+    (
+        a < b,
+        a.cmp(b),
+        a.partial_cmp(b),
+        a == b,
+        hash_of(a) == hash_of(b),
+    )
+}
+
 /// Asserts that the value of that number is at that place among all of them, is equal only to itself, and has its
 /// own hash.
 fn expect_place<T: Copy + Ord + Hash>(rt: &impl Abort, i: usize, a: &T, values: &[T]) {
     for (j, b) in values.iter().enumerate() {
-        assert_eq!(rt; a < b, i < j, "{i} and {j}");
-        assert_eq!(rt; a.cmp(b), i.cmp(&j), "{i} and {j}");
-        assert_eq!(rt; a.partial_cmp(b), Some(i.cmp(&j)), "{i} and {j}");
-        assert_eq!(rt; a == b, i == j, "{i} and {j}");
-        assert_eq!(rt; hash_of(a) == hash_of(b), i == j, "{i} and {j}");
+        let order = i.cmp(&j);
+        let want = (i < j, order, Some(order), i == j, i == j);
+        assert!(rt; compared(a, b) == want, "{i} and {j}");
     }
 }
 
@@ -57,8 +69,8 @@ fn encodings(rt: HostRuntime) {
         yaml_encoding_t::YAML_UTF16BE_ENCODING,
     ];
     expect_order(&rt, &VALUES);
-    for (number, value) in (0u8..).zip(VALUES) {
-        assert_eq!(rt; value as u8, number);
+    for (number, value) in VALUES.iter().enumerate() {
+        assert_eq!(rt; *value as usize, number);
     }
 }
 
@@ -71,8 +83,8 @@ fn breaks(rt: HostRuntime) {
         yaml_break_t::YAML_CRLN_BREAK,
     ];
     expect_order(&rt, &VALUES);
-    for (number, value) in (0u8..).zip(VALUES) {
-        assert_eq!(rt; value as u8, number);
+    for (number, value) in VALUES.iter().enumerate() {
+        assert_eq!(rt; *value as usize, number);
     }
 }
 
@@ -89,8 +101,8 @@ fn error_types(rt: HostRuntime) {
         yaml_error_type_t::YAML_EMITTER_ERROR,
     ];
     expect_order(&rt, &VALUES);
-    for (number, value) in (0u8..).zip(VALUES) {
-        assert_eq!(rt; value as u8, number);
+    for (number, value) in VALUES.iter().enumerate() {
+        assert_eq!(rt; *value as usize, number);
     }
 }
 
@@ -105,8 +117,8 @@ fn scalar_styles(rt: HostRuntime) {
         yaml_scalar_style_t::YAML_FOLDED_SCALAR_STYLE,
     ];
     expect_order(&rt, &VALUES);
-    for (number, value) in (0u8..).zip(VALUES) {
-        assert_eq!(rt; value as u8, number);
+    for (number, value) in VALUES.iter().enumerate() {
+        assert_eq!(rt; *value as usize, number);
     }
 }
 
@@ -118,8 +130,8 @@ fn sequence_styles(rt: HostRuntime) {
         yaml_sequence_style_t::YAML_FLOW_SEQUENCE_STYLE,
     ];
     expect_order(&rt, &VALUES);
-    for (number, value) in (0u8..).zip(VALUES) {
-        assert_eq!(rt; value as u8, number);
+    for (number, value) in VALUES.iter().enumerate() {
+        assert_eq!(rt; *value as usize, number);
     }
 }
 
@@ -131,8 +143,8 @@ fn mapping_styles(rt: HostRuntime) {
         yaml_mapping_style_t::YAML_FLOW_MAPPING_STYLE,
     ];
     expect_order(&rt, &VALUES);
-    for (number, value) in (0u8..).zip(VALUES) {
-        assert_eq!(rt; value as u8, number);
+    for (number, value) in VALUES.iter().enumerate() {
+        assert_eq!(rt; *value as usize, number);
     }
 }
 
@@ -163,9 +175,38 @@ fn token_types(rt: HostRuntime) {
         yaml_token_type_t::YAML_SCALAR_TOKEN,
     ];
     expect_order(&rt, &VALUES);
-    for (number, value) in (0u8..).zip(VALUES) {
-        assert_eq!(rt; value as u8, number);
+    for (number, value) in VALUES.iter().enumerate() {
+        assert_eq!(rt; *value as usize, number);
     }
+}
+
+/// Asserts the word of a kind of error.
+fn expect_word(
+    rt: &impl Abort,
+    alloc: Global,
+    error: yaml_error_type_t,
+    word: &str,
+) -> Result<(), Fail> {
+    let shown = error.to_string(alloc)?;
+    assert_eq!(rt; shown.as_str(), word);
+    Ok(())
+}
+
+/// Asserts the words of a fault of a kind of error, which has a word.
+fn expect_words(
+    rt: &impl Abort,
+    alloc: Global,
+    error: yaml_error_type_t,
+    word: &str,
+) -> Result<(), Fail> {
+    let fault = yaml_fault_t {
+        error,
+        ..MEMORY_FAULT
+    };
+    let words = format!(in alloc; "YAML {word} fault")?;
+    let shown = fault.to_string(alloc)?;
+    assert_eq!(rt; shown.as_str(), words.as_str());
+    Ok(())
 }
 
 /// The word of each kind of error, and a fault of that kind.
@@ -181,15 +222,9 @@ fn words(rt: HostRuntime) -> Result<(), Fail> {
         (yaml_error_type_t::YAML_WRITER_ERROR, "writer"),
         (yaml_error_type_t::YAML_EMITTER_ERROR, "emitter"),
     ];
-    let alloc = rt.alloc();
-    for (error, word) in ROWS {
-        assert_eq!(rt; error.to_string(alloc)?.as_str(), word);
-        let fault = yaml_fault_t {
-            error,
-            ..MEMORY_FAULT
-        };
-        let words = format!(in alloc; "YAML {word} fault")?;
-        assert_eq!(rt; fault.to_string(alloc)?.as_str(), words.as_str());
+    for (error, word) in &ROWS {
+        expect_word(&rt, rt.alloc(), *error, word)?;
+        expect_words(&rt, rt.alloc(), *error, word)?;
     }
     Ok(())
 }

@@ -10,7 +10,7 @@ use yaml_lexeme::{
 };
 use yaml_text::{
     unnamed_yaml_token_t_data, yaml_decode, yaml_encoding_t, yaml_error_type_t, yaml_fault_t,
-    yaml_is_place, yaml_mark_at, yaml_mark_t, yaml_scalar_style_t,
+    yaml_is_place, yaml_mark_at, yaml_mark_t, yaml_scalar_style_t, yaml_text_t,
 };
 
 const ANY: yaml_encoding_t = yaml_encoding_t::YAML_ANY_ENCODING;
@@ -122,11 +122,24 @@ fn show_fault(alloc: Global, fault: &yaml_fault_t) -> Result<String, Fail> {
     Ok(format!(in alloc; "{context} {at}; {problem} {there}")?)
 }
 
+fn decoded(alloc: Global, bytes: &[u8]) -> Result<yaml_text_t, Fail> {
+    match yaml_decode(alloc, bytes, ANY) {
+        Ok(text) => Ok(text),
+        Err(_) => Err("refused".into()),
+    }
+}
+
+/// The line of a lexeme or of a fault.
+fn show_found(alloc: Global, found: Result<yaml_lexeme_t, yaml_fault_t>) -> Result<String, Fail> {
+    match found {
+        Ok(lexeme) => show_lexeme(alloc, &lexeme),
+        Err(fault) => show_fault(alloc, &fault),
+    }
+}
+
 /// The gap at the front of a text, and whether a break is in it.
 fn show_gap(alloc: Global, bytes: &[u8], in_flow: bool, allowed: bool) -> Result<String, Fail> {
-    let Ok(text) = yaml_decode(alloc, bytes, ANY) else {
-        return Err("refused".into());
-    };
+    let text = decoded(alloc, bytes)?;
     let (mark, broken) = yaml_gap(&text, FRONT, in_flow, allowed);
     let mark = show_mark(alloc, mark)?;
     Ok(format!(in alloc; "{mark} {broken}")?)
@@ -139,9 +152,7 @@ fn kind_after(
     index: usize,
     in_flow: bool,
 ) -> Result<Option<yaml_lexeme_kind_t>, Fail> {
-    let Ok(text) = yaml_decode(alloc, bytes, ANY) else {
-        return Err("refused".into());
-    };
+    let text = decoded(alloc, bytes)?;
     if !yaml_is_place(&text, index) {
         return Err("no place".into());
     }
@@ -150,17 +161,13 @@ fn kind_after(
 }
 
 fn kind_of(alloc: Global, bytes: &[u8], in_flow: bool) -> Result<Option<yaml_lexeme_kind_t>, Fail> {
-    let Ok(text) = yaml_decode(alloc, bytes, ANY) else {
-        return Err("refused".into());
-    };
+    let text = decoded(alloc, bytes)?;
     Ok(yaml_lexeme_kind(&text, FRONT, in_flow))
 }
 
 /// The lexeme at the front of a text.
 fn lexed(alloc: Global, bytes: &[u8], depth: u64, level: Option<u64>) -> Result<String, Fail> {
-    let Ok(text) = yaml_decode(alloc, bytes, ANY) else {
-        return Err("refused".into());
-    };
+    let text = decoded(alloc, bytes)?;
     let Some(kind) = yaml_lexeme_kind(&text, FRONT, depth > 0) else {
         return Ok(String::from_str(alloc, "no kind")?);
     };
@@ -170,17 +177,12 @@ fn lexed(alloc: Global, bytes: &[u8], depth: u64, level: Option<u64>) -> Result<
         return Ok(String::from_str(alloc, "no level")?);
     }
     let context = yaml_context_t { depth, level };
-    match yaml_lexeme_at(alloc, &text, FRONT, kind, context) {
-        Ok(lexeme) => show_lexeme(alloc, &lexeme),
-        Err(fault) => show_fault(alloc, &fault),
-    }
+    show_found(alloc, yaml_lexeme_at(alloc, &text, FRONT, kind, context))
 }
 
 /// The lexeme after so many bytes of a text, outside of flow and with no level open.
 fn lexed_after(alloc: Global, bytes: &[u8], index: usize) -> Result<String, Fail> {
-    let Ok(text) = yaml_decode(alloc, bytes, ANY) else {
-        return Err("refused".into());
-    };
+    let text = decoded(alloc, bytes)?;
     if !yaml_is_place(&text, index) {
         return Err("no place".into());
     }
@@ -188,10 +190,7 @@ fn lexed_after(alloc: Global, bytes: &[u8], index: usize) -> Result<String, Fail
     let Some(kind) = yaml_lexeme_kind(&text, at, false) else {
         return Ok(String::from_str(alloc, "no kind")?);
     };
-    match yaml_lexeme_at(alloc, &text, at, kind, OUTSIDE) {
-        Ok(lexeme) => show_lexeme(alloc, &lexeme),
-        Err(fault) => show_fault(alloc, &fault),
-    }
+    show_found(alloc, yaml_lexeme_at(alloc, &text, at, kind, OUTSIDE))
 }
 
 /// What a reader of a kind returned at the front of a text: the lexeme, or the fault of its refusal.
@@ -214,9 +213,7 @@ fn scalar_read(
     kind: yaml_lexeme_kind_t,
     context: yaml_context_t,
 ) -> Result<String, Fail> {
-    let Ok(text) = yaml_decode(alloc, bytes, ANY) else {
-        return Err("refused".into());
-    };
+    let text = decoded(alloc, bytes)?;
     if let Some(column) = context.level
         && column > text.bytes().len() as u64
     {
@@ -240,9 +237,7 @@ fn scalar_read(
 
 /// The anchor, alias or tag at the front of a text, by the reader of its kind.
 fn named_read(alloc: Global, bytes: &[u8], depth: u64) -> Result<String, Fail> {
-    let Ok(text) = yaml_decode(alloc, bytes, ANY) else {
-        return Err("refused".into());
-    };
+    let text = decoded(alloc, bytes)?;
     let Some(kind) = yaml_lexeme_kind(&text, FRONT, depth > 0) else {
         return Ok(String::from_str(alloc, "no kind")?);
     };
@@ -262,9 +257,7 @@ fn named_read(alloc: Global, bytes: &[u8], depth: u64) -> Result<String, Fail> {
 
 /// The lexeme at the front of a text, by the reader of every kind.
 fn lexeme_read(alloc: Global, bytes: &[u8], depth: u64) -> Result<String, Fail> {
-    let Ok(text) = yaml_decode(alloc, bytes, ANY) else {
-        return Err("refused".into());
-    };
+    let text = decoded(alloc, bytes)?;
     let Some(kind) = yaml_lexeme_kind(&text, FRONT, depth > 0) else {
         return Ok(String::from_str(alloc, "no kind")?);
     };
@@ -279,9 +272,7 @@ fn lexeme_read(alloc: Global, bytes: &[u8], depth: u64) -> Result<String, Fail> 
 
 /// The lexeme of one character at the front of a text.
 fn character_read(alloc: Global, bytes: &[u8], in_flow: bool) -> Result<String, Fail> {
-    let Ok(text) = yaml_decode(alloc, bytes, ANY) else {
-        return Err("refused".into());
-    };
+    let text = decoded(alloc, bytes)?;
     let Some(kind) = yaml_lexeme_kind(&text, FRONT, in_flow) else {
         return Ok(String::from_str(alloc, "no kind")?);
     };
@@ -308,9 +299,7 @@ fn character_read(alloc: Global, bytes: &[u8], in_flow: bool) -> Result<String, 
 
 /// The stream end after the first bytes of a text.
 fn stream_end_read(alloc: Global, bytes: &[u8], index: usize) -> Result<String, Fail> {
-    let Ok(text) = yaml_decode(alloc, bytes, ANY) else {
-        return Err("refused".into());
-    };
+    let text = decoded(alloc, bytes)?;
     if !yaml_is_place(&text, index) {
         return Err("no place".into());
     }
@@ -326,10 +315,13 @@ fn decider_at(
     bytes: &[u8],
     in_flow: bool,
 ) -> Result<Option<yaml_lexeme_kind_t>, Fail> {
-    let Ok(text) = yaml_decode(alloc, bytes, ANY) else {
-        return Err("refused".into());
-    };
+    let text = decoded(alloc, bytes)?;
     Ok(yaml_decider_at(&text, FRONT, in_flow))
+}
+
+/// Asserts that what is shown of a text is as wanted.
+fn expect_shown(rt: &impl Abort, text: &str, shown: &str, want: &str) {
+    assert_eq!(rt; shown, want, "{text}");
 }
 
 /// Texts, the flow depth and the greatest open level at their front, and what their first lexeme must be.
@@ -340,35 +332,96 @@ fn expect_rows(
 ) -> Result<(), Fail> {
     for (text, depth, level, want) in rows {
         let shown = lexed(alloc, text.as_bytes(), *depth, *level)?;
-        assert_eq!(rt; shown.as_str(), *want, "{text}");
+        expect_shown(rt, text, shown.as_str(), want);
+    }
+    Ok(())
+}
+
+/// What is read at the front of a text.
+#[derive(Clone, Copy)]
+enum way_t {
+    /// The gap: whether it is in flow, and whether a key is allowed.
+    GAP(bool, bool),
+    /// A scalar by the reader of its kind, at a flow depth and with a greatest open level.
+    SCALAR(yaml_lexeme_kind_t, u64, Option<u64>),
+    /// An anchor, an alias or a tag by the reader of its kind, at a flow depth.
+    NAMED(u64),
+    /// A lexeme by the reader of every kind, at a flow depth.
+    LEXEME(u64),
+    /// A lexeme of one character or a document marker, in flow or not.
+    CHARACTER(bool),
+    /// The stream end after so many bytes.
+    END(usize),
+}
+
+/// What is shown of a text that is read in a way.
+fn shown_of(alloc: Global, bytes: &[u8], way: way_t) -> Result<String, Fail> {
+    match way {
+        way_t::GAP(in_flow, allowed) => show_gap(alloc, bytes, in_flow, allowed),
+        way_t::SCALAR(kind, depth, level) => {
+            scalar_read(alloc, bytes, kind, yaml_context_t { depth, level })
+        }
+        way_t::NAMED(depth) => named_read(alloc, bytes, depth),
+        way_t::LEXEME(depth) => lexeme_read(alloc, bytes, depth),
+        way_t::CHARACTER(in_flow) => character_read(alloc, bytes, in_flow),
+        way_t::END(index) => stream_end_read(alloc, bytes, index),
+    }
+}
+
+/// Texts, what is read at their front, and what must be shown of it.
+fn expect_read(rt: &impl Abort, alloc: Global, rows: &[(&str, way_t, &str)]) -> Result<(), Fail> {
+    for (text, way, want) in rows {
+        let shown = shown_of(alloc, text.as_bytes(), *way)?;
+        expect_shown(rt, text, shown.as_str(), want);
     }
     Ok(())
 }
 
 #[test]
 fn gaps(rt: HostRuntime) -> Result<(), Fail> {
-    const GAPS: [(&str, bool, bool, &str); 14] = [
-        ("\r\n  x", false, false, "4:1:2 true"),
-        ("\r\n\tx", false, false, "2:1:0 true"),
-        ("\r\n  #c\r\nx", false, false, "8:2:0 true"),
-        ("\r\n", true, true, "2:1:0 true"),
-        ("\t#c\n  x", false, false, "6:1:2 true"),
-        ("\t#c\n  x", false, true, "0:0:0 false"),
-        ("\n\tx", false, false, "1:1:0 true"),
-        ("\n\tx", true, false, "2:1:1 true"),
-        ("\n\u{FEFF} x", false, false, "5:1:2 true"),
-        (" \t #c", false, false, "5:0:5 false"),
-        (" \t #c", false, true, "1:0:1 false"),
-        ("\n \tx", true, true, "3:1:2 true"),
-        ("#c\n#d\r\n\u{2028} #e\r  x", false, true, "16:4:2 true"),
-        ("#c\n\n \n\tx", false, false, "6:3:0 true"),
+    const ROWS: [(&str, way_t, &str); 14] = [
+        ("\r\n  x", way_t::GAP(false, false), "4:1:2 true"),
+        ("\r\n\tx", way_t::GAP(false, false), "2:1:0 true"),
+        ("\r\n  #c\r\nx", way_t::GAP(false, false), "8:2:0 true"),
+        ("\r\n", way_t::GAP(true, true), "2:1:0 true"),
+        ("\t#c\n  x", way_t::GAP(false, false), "6:1:2 true"),
+        ("\t#c\n  x", way_t::GAP(false, true), "0:0:0 false"),
+        ("\n\tx", way_t::GAP(false, false), "1:1:0 true"),
+        ("\n\tx", way_t::GAP(true, false), "2:1:1 true"),
+        ("\n\u{FEFF} x", way_t::GAP(false, false), "5:1:2 true"),
+        (" \t #c", way_t::GAP(false, false), "5:0:5 false"),
+        (" \t #c", way_t::GAP(false, true), "1:0:1 false"),
+        ("\n \tx", way_t::GAP(true, true), "3:1:2 true"),
+        (
+            "#c\n#d\r\n\u{2028} #e\r  x",
+            way_t::GAP(false, true),
+            "16:4:2 true",
+        ),
+        ("#c\n\n \n\tx", way_t::GAP(false, false), "6:3:0 true"),
     ];
-    let alloc = rt.alloc();
-    for (bytes, in_flow, allowed, want) in GAPS {
-        let shown = show_gap(alloc, bytes.as_bytes(), in_flow, allowed)?;
-        assert_eq!(rt; shown.as_str(), want, "{bytes}");
+    expect_read(&rt, rt.alloc(), &ROWS)
+}
+
+/// A comment of so many x, what is between, and so many spaces.
+fn comment(alloc: Global, between: &str, sizes: (u64, u64)) -> Result<String, Fail> {
+    let (letters, spaces) = sizes;
+    let mut text = String::from_str(alloc, "#")?;
+    push_letters(&mut text, "x", letters)?;
+    text.push_str(between)?;
+    push_letters(&mut text, " ", spaces)?;
+    Ok(text)
+}
+
+/// The line of the gap before a y that comes after a comment of so many bytes, which a break ends before the spaces, or
+/// nothing ends.
+fn gap_line(alloc: Global, broken: bool, len: usize, sizes: (u64, u64)) -> Result<String, Fail> {
+    let (letters, spaces) = sizes;
+    if broken {
+        return Ok(format!(in alloc; "{len}:1:{spaces} true")?);
     }
-    Ok(())
+    let end = (len as u64).saturating_add(1);
+    let column = letters.saturating_add(spaces).saturating_add(3);
+    Ok(format!(in alloc; "{end}:0:{column} false")?)
 }
 
 /// Compares the gap before a comment of so many x, a break, and spaces with what is wanted.
@@ -379,22 +432,11 @@ fn expect_comment(
     sizes: (u64, u64),
 ) -> Result<(), Fail> {
     let (between, broken) = break_is;
-    let (letters, spaces) = sizes;
-    let mut text = String::from_str(alloc, "#")?;
-    push_letters(&mut text, "x", letters)?;
-    text.push_str(between)?;
-    push_letters(&mut text, " ", spaces)?;
-    let index = text.as_bytes().len();
+    let mut text = comment(alloc, between, sizes)?;
+    let want = gap_line(alloc, broken, text.as_bytes().len(), sizes)?;
     text.push_str("y")?;
     let shown = show_gap(alloc, text.as_bytes(), false, true)?;
-    let end = text.as_bytes().len();
-    let column = letters.saturating_add(spaces).saturating_add(3);
-    let want = if broken {
-        format!(in alloc; "{index}:1:{spaces} true")?
-    } else {
-        format!(in alloc; "{end}:0:{column} false")?
-    };
-    assert_eq!(rt; shown.as_str(), want.as_str(), "{letters} {spaces}");
+    expect_shown(rt, text.as_str(), shown.as_str(), want.as_str());
     Ok(())
 }
 
@@ -420,6 +462,16 @@ fn comments_of_each_length(rt: HostRuntime) -> Result<(), Fail> {
     Ok(())
 }
 
+/// Asserts that the kind that was found in a text is the one that is wanted.
+fn expect_kind(
+    rt: &impl Abort,
+    text: &str,
+    found: Option<yaml_lexeme_kind_t>,
+    want: Option<yaml_lexeme_kind_t>,
+) {
+    assert!(rt; found == want, "{text}");
+}
+
 #[test]
 fn kinds(rt: HostRuntime) -> Result<(), Fail> {
     const ROWS: [(&str, bool, yaml_lexeme_kind_t); 6] = [
@@ -433,7 +485,7 @@ fn kinds(rt: HostRuntime) -> Result<(), Fail> {
     let alloc = rt.alloc();
     for (bytes, in_flow, want) in ROWS {
         let found = kind_of(alloc, bytes.as_bytes(), in_flow)?;
-        assert!(rt; found == Some(want), "{bytes}");
+        expect_kind(&rt, bytes, found, Some(want));
     }
     Ok(())
 }
@@ -448,7 +500,7 @@ fn kinds_at_the_start_of_a_line(rt: HostRuntime) -> Result<(), Fail> {
     let alloc = rt.alloc();
     for (text, index, want) in ROWS {
         let found = kind_after(alloc, text.as_bytes(), index, false)?;
-        assert!(rt; found == want, "{text}");
+        expect_kind(&rt, text, found, want);
     }
     Ok(())
 }
@@ -720,6 +772,26 @@ fn scalar_line(alloc: Global, style: &str, value: &str, end: yaml_mark_t) -> Res
     Ok(format!(in alloc; "{style} {bytes} 0:0:0 {end} {end} false")?)
 }
 
+/// Asserts that a text is read as one scalar of a style and a value, up to its end in a line and a column.
+fn expect_scalar(
+    rt: &impl Abort,
+    alloc: Global,
+    text: &str,
+    want: (&str, &str, u64, u64),
+) -> Result<(), Fail> {
+    let (style, value, line, column) = want;
+    let index = text.as_bytes().len() as u64;
+    let end = yaml_mark_t {
+        index,
+        line,
+        column,
+    };
+    let want = scalar_line(alloc, style, value, end)?;
+    let shown = lexed(alloc, text.as_bytes(), 0, None)?;
+    expect_shown(rt, text, shown.as_str(), want.as_str());
+    Ok(())
+}
+
 /// Compares a plain scalar of x, a break or one character, and y with what is wanted. `kept` is what the scalar keeps
 /// of what is between.
 fn expect_between(
@@ -737,15 +809,12 @@ fn expect_between(
     } else {
         (0, front.saturating_add(back).saturating_add(1))
     };
-    let end = yaml_mark_t {
-        index: text.as_bytes().len() as u64,
-        line,
-        column,
-    };
-    let want = scalar_line(alloc, "plain", value.as_str(), end)?;
-    let shown = lexed(alloc, text.as_bytes(), 0, None)?;
-    assert_eq!(rt; shown.as_str(), want.as_str(), "{front} {back}");
-    Ok(())
+    expect_scalar(
+        rt,
+        alloc,
+        text.as_str(),
+        ("plain", value.as_str(), line, column),
+    )
 }
 
 #[test]
@@ -888,8 +957,22 @@ fn block_values(rt: HostRuntime) -> Result<(), Fail> {
     expect_rows(&rt, rt.alloc(), &ROWS)
 }
 
-/// Compares a literal and a folded scalar with what is wanted: a line of x, then what is between, then y up to a line
-/// feed. Of what is between the literal one keeps `kept`, and the folded one `folded`.
+/// Compares a literal or a folded scalar with what is wanted: a line of x, then what is between, then y up to a line
+/// feed. Its style and its front, what is between, what it keeps of that, and the line of its end.
+fn expect_line(
+    rt: &impl Abort,
+    alloc: Global,
+    row: ((&str, &str), &str, &str, u64),
+    sizes: (u64, u64),
+) -> Result<(), Fail> {
+    let ((style, first), between, kept, line) = row;
+    let text = joined(alloc, (first, "\n"), between, sizes)?;
+    let value = joined(alloc, ("", "\n"), kept, sizes)?;
+    expect_scalar(rt, alloc, text.as_str(), (style, value.as_str(), line, 0))
+}
+
+/// Compares a literal and a folded scalar with what is wanted. Of what is between the literal one keeps `kept`, and the
+/// folded one `folded`.
 fn expect_lines(
     rt: &impl Abort,
     alloc: Global,
@@ -897,20 +980,13 @@ fn expect_lines(
     sizes: (u64, u64),
 ) -> Result<(), Fail> {
     let (between, kept, folded, line) = row;
-    let (front, back) = sizes;
-    for (first, style, kept) in [("|\n ", "literal", kept), (">\n ", "folded", folded)] {
-        let text = joined(alloc, (first, "\n"), between, sizes)?;
-        let value = joined(alloc, ("", "\n"), kept, sizes)?;
-        let end = yaml_mark_t {
-            index: text.as_bytes().len() as u64,
-            line,
-            column: 0,
-        };
-        let want = scalar_line(alloc, style, value.as_str(), end)?;
-        let shown = lexed(alloc, text.as_bytes(), 0, None)?;
-        assert_eq!(rt; shown.as_str(), want.as_str(), "{front} {back}");
-    }
-    Ok(())
+    expect_line(rt, alloc, (("literal", "|\n "), between, kept, line), sizes)?;
+    expect_line(
+        rt,
+        alloc,
+        (("folded", ">\n "), between, folded, line),
+        sizes,
+    )
 }
 
 #[test]
@@ -1200,69 +1276,105 @@ fn directives_refused(rt: HostRuntime) -> Result<(), Fail> {
 /// Plain scalars of one line and of two, and one that has an offence.
 #[test]
 fn plain_scalars_read(rt: HostRuntime) -> Result<(), Fail> {
-    const ROWS: [(&str, u64, Option<u64>, &str); 9] = [
-        ("ab: c", 0, None, "plain 6162 0:0:0 2:0:2 2:0:2 false"),
-        ("a b]", 1, None, "plain 612062 0:0:0 3:0:3 3:0:3 false"),
-        ("a b\n", 0, Some(0), "plain 612062 0:0:0 3:0:3 4:1:0 true"),
-        ("a\n b", 0, Some(1), "plain 61 0:0:0 1:0:1 3:1:1 true"),
-        ("a\n b", 0, Some(0), "plain 612062 0:0:0 4:1:2 4:1:2 false"),
-        ("a\nb", 0, None, "plain 612062 0:0:0 3:1:1 3:1:1 false"),
-        ("a # c", 0, None, "plain 61 0:0:0 1:0:1 2:0:2 false"),
+    const PLAIN: yaml_lexeme_kind_t = yaml_lexeme_kind_t::PLAIN;
+    const ROWS: [(&str, way_t, &str); 9] = [
+        (
+            "ab: c",
+            way_t::SCALAR(PLAIN, 0, None),
+            "plain 6162 0:0:0 2:0:2 2:0:2 false",
+        ),
+        (
+            "a b]",
+            way_t::SCALAR(PLAIN, 1, None),
+            "plain 612062 0:0:0 3:0:3 3:0:3 false",
+        ),
+        (
+            "a b\n",
+            way_t::SCALAR(PLAIN, 0, Some(0)),
+            "plain 612062 0:0:0 3:0:3 4:1:0 true",
+        ),
+        (
+            "a\n b",
+            way_t::SCALAR(PLAIN, 0, Some(1)),
+            "plain 61 0:0:0 1:0:1 3:1:1 true",
+        ),
+        (
+            "a\n b",
+            way_t::SCALAR(PLAIN, 0, Some(0)),
+            "plain 612062 0:0:0 4:1:2 4:1:2 false",
+        ),
+        (
+            "a\nb",
+            way_t::SCALAR(PLAIN, 0, None),
+            "plain 612062 0:0:0 3:1:1 3:1:1 false",
+        ),
+        (
+            "a # c",
+            way_t::SCALAR(PLAIN, 0, None),
+            "plain 61 0:0:0 1:0:1 2:0:2 false",
+        ),
         (
             "a:]",
-            1,
-            None,
+            way_t::SCALAR(PLAIN, 1, None),
             "while scanning a plain scalar 0:0:0; found unexpected ':' 1:0:1",
         ),
-        ("a:]", 0, None, "plain 613a5d 0:0:0 3:0:3 3:0:3 false"),
+        (
+            "a:]",
+            way_t::SCALAR(PLAIN, 0, None),
+            "plain 613a5d 0:0:0 3:0:3 3:0:3 false",
+        ),
     ];
-    let alloc = rt.alloc();
-    for (text, depth, level, want) in ROWS {
-        let context = yaml_context_t { depth, level };
-        let plain = yaml_lexeme_kind_t::PLAIN;
-        let shown = scalar_read(alloc, text.as_bytes(), plain, context)?;
-        assert_eq!(rt; shown.as_str(), want, "{text}");
-    }
-    Ok(())
+    expect_read(&rt, rt.alloc(), &ROWS)
 }
 
 /// Quoted scalars whose value is what is between the quotes, some that have an escape or a break, and one with no end.
 #[test]
 fn quoted_scalars_read(rt: HostRuntime) -> Result<(), Fail> {
-    let alloc = rt.alloc();
     const SINGLE: yaml_lexeme_kind_t = yaml_lexeme_kind_t::SINGLE_QUOTED;
     const DOUBLE: yaml_lexeme_kind_t = yaml_lexeme_kind_t::DOUBLE_QUOTED;
-    const ROWS: [(&str, yaml_lexeme_kind_t, &str); 8] = [
+    const ROWS: [(&str, way_t, &str); 8] = [
         (
             "\"a b\": c",
-            DOUBLE,
+            way_t::SCALAR(DOUBLE, 0, None),
             "double 612062 0:0:0 5:0:5 5:0:5 false",
         ),
-        ("''", SINGLE, "single - 0:0:0 2:0:2 2:0:2 false"),
+        (
+            "''",
+            way_t::SCALAR(SINGLE, 0, None),
+            "single - 0:0:0 2:0:2 2:0:2 false",
+        ),
         (
             "'a\\n\"'\n",
-            SINGLE,
+            way_t::SCALAR(SINGLE, 0, None),
             "single 615c6e22 0:0:0 6:0:6 6:0:6 false",
         ),
-        ("'a''b'", SINGLE, "single 612762 0:0:0 6:0:6 6:0:6 false"),
-        ("\"a\\n\"", DOUBLE, "double 610a 0:0:0 5:0:5 5:0:5 false"),
-        ("\"a\n b\"", DOUBLE, "double 612062 0:0:0 6:1:3 6:1:3 false"),
+        (
+            "'a''b'",
+            way_t::SCALAR(SINGLE, 0, None),
+            "single 612762 0:0:0 6:0:6 6:0:6 false",
+        ),
+        (
+            "\"a\\n\"",
+            way_t::SCALAR(DOUBLE, 0, None),
+            "double 610a 0:0:0 5:0:5 5:0:5 false",
+        ),
+        (
+            "\"a\n b\"",
+            way_t::SCALAR(DOUBLE, 0, None),
+            "double 612062 0:0:0 6:1:3 6:1:3 false",
+        ),
         (
             "\"a",
-            DOUBLE,
+            way_t::SCALAR(DOUBLE, 0, None),
             "while scanning a quoted scalar 0:0:0; found unexpected end of stream 2:0:2",
         ),
         (
             "'\u{2028}'",
-            SINGLE,
+            way_t::SCALAR(SINGLE, 0, None),
             "single e280a8 0:0:0 5:1:1 5:1:1 false",
         ),
     ];
-    for (text, kind, want) in ROWS {
-        let shown = scalar_read(alloc, text.as_bytes(), kind, OUTSIDE)?;
-        assert_eq!(rt; shown.as_str(), want, "{text}");
-    }
-    Ok(())
+    expect_read(&rt, rt.alloc(), &ROWS)
 }
 
 /// Literal and folded scalars, and some that have an offence.
@@ -1270,51 +1382,57 @@ fn quoted_scalars_read(rt: HostRuntime) -> Result<(), Fail> {
 fn block_scalars_read(rt: HostRuntime) -> Result<(), Fail> {
     const LITERAL: yaml_lexeme_kind_t = yaml_lexeme_kind_t::LITERAL;
     const FOLDED: yaml_lexeme_kind_t = yaml_lexeme_kind_t::FOLDED;
-    const ROWS: [(&str, yaml_lexeme_kind_t, Option<u64>, &str); 7] = [
+    const ROWS: [(&str, way_t, &str); 7] = [
         (
             "|\n a\n b\n",
-            LITERAL,
-            None,
+            way_t::SCALAR(LITERAL, 0, None),
             "literal 610a620a 0:0:0 8:3:0 8:3:0 false",
         ),
         (
             ">\n a\n b\n",
-            FOLDED,
-            None,
+            way_t::SCALAR(FOLDED, 0, None),
             "folded 6120620a 0:0:0 8:3:0 8:3:0 false",
         ),
         (
             "|+\n a\n\n",
-            LITERAL,
-            None,
+            way_t::SCALAR(LITERAL, 0, None),
             "literal 610a0a 0:0:0 7:3:0 7:3:0 false",
         ),
         (
             ">-\n  a\n\n  b\nc",
-            FOLDED,
-            Some(1),
+            way_t::SCALAR(FOLDED, 0, Some(1)),
             "folded 610a62 0:0:0 12:4:0 12:4:0 false",
         ),
-        ("|", LITERAL, None, "literal - 0:0:0 1:0:1 1:0:1 false"),
+        (
+            "|",
+            way_t::SCALAR(LITERAL, 0, None),
+            "literal - 0:0:0 1:0:1 1:0:1 false",
+        ),
         (
             "| a",
-            LITERAL,
-            None,
+            way_t::SCALAR(LITERAL, 0, None),
             "while scanning a block scalar 0:0:0; did not find expected comment or line break 2:0:2",
         ),
         (
             "|\n\ta",
-            LITERAL,
-            Some(0),
+            way_t::SCALAR(LITERAL, 0, Some(0)),
             "while scanning a block scalar 0:0:0; found a tab character where an indentation space is expected 2:1:0",
         ),
     ];
-    let alloc = rt.alloc();
-    for (text, kind, level, want) in ROWS {
-        let context = yaml_context_t { depth: 0, level };
-        let shown = scalar_read(alloc, text.as_bytes(), kind, context)?;
-        assert_eq!(rt; shown.as_str(), want, "{text}");
-    }
+    expect_read(&rt, rt.alloc(), &ROWS)
+}
+
+/// Asserts that the fault of a scalar's refusal, by the reader of its kind, is the one that `yaml_lexeme_at` returns.
+fn expect_refusal(
+    rt: &impl Abort,
+    alloc: Global,
+    row: &(&str, yaml_lexeme_kind_t, u64),
+) -> Result<(), Fail> {
+    let (text, kind, depth) = *row;
+    let want = lexed(alloc, text.as_bytes(), depth, None)?;
+    let shown = shown_of(alloc, text.as_bytes(), way_t::SCALAR(kind, depth, None))?;
+    assert!(rt; want.as_str().starts_with("while"), "{text}");
+    expect_shown(rt, text, shown.as_str(), want.as_str());
     Ok(())
 }
 
@@ -1329,13 +1447,8 @@ fn refusals_of_scalars(rt: HostRuntime) -> Result<(), Fail> {
         ("|0\n", yaml_lexeme_kind_t::LITERAL, 0),
         (">- a\n", yaml_lexeme_kind_t::FOLDED, 0),
     ];
-    let alloc = rt.alloc();
-    for (text, kind, depth) in ROWS {
-        let want = lexed(alloc, text.as_bytes(), depth, None)?;
-        let context = yaml_context_t { depth, level: None };
-        let shown = scalar_read(alloc, text.as_bytes(), kind, context)?;
-        assert!(rt; want.as_str().starts_with("while"), "{text}");
-        assert_eq!(rt; shown.as_str(), want.as_str(), "{text}");
+    for row in &ROWS {
+        expect_refusal(&rt, rt.alloc(), row)?;
     }
     Ok(())
 }
@@ -1343,107 +1456,113 @@ fn refusals_of_scalars(rt: HostRuntime) -> Result<(), Fail> {
 /// Lexemes of every kind, and their offences, by one reader.
 #[test]
 fn lexemes_read(rt: HostRuntime) -> Result<(), Fail> {
-    const ROWS: [(&str, u64, &str); 12] = [
-        ("", 0, "end 0:0:0 0:0:0 0:0:0 false"),
-        ("%YAML 1.1", 0, "version 1 1 0:0:0 9:0:9 9:0:9 false"),
+    const ROWS: [(&str, way_t, &str); 12] = [
+        ("", way_t::LEXEME(0), "end 0:0:0 0:0:0 0:0:0 false"),
+        (
+            "%YAML 1.1",
+            way_t::LEXEME(0),
+            "version 1 1 0:0:0 9:0:9 9:0:9 false",
+        ),
         (
             "%FOO x",
-            0,
+            way_t::LEXEME(0),
             "while scanning a directive 0:0:0; found unknown directive name 4:0:4",
         ),
-        ("---", 0, "document start 0:0:0 3:0:3 3:0:3 false"),
-        ("]", 1, "sequence end 0:0:0 1:0:1 1:0:1 false"),
-        ("&a]", 0, "anchor 61 0:0:0 2:0:2 2:0:2 false"),
+        (
+            "---",
+            way_t::LEXEME(0),
+            "document start 0:0:0 3:0:3 3:0:3 false",
+        ),
+        (
+            "]",
+            way_t::LEXEME(1),
+            "sequence end 0:0:0 1:0:1 1:0:1 false",
+        ),
+        ("&a]", way_t::LEXEME(0), "anchor 61 0:0:0 2:0:2 2:0:2 false"),
         (
             "*",
-            0,
+            way_t::LEXEME(0),
             "while scanning an alias 0:0:0; did not find expected alphabetic or numeric character 1:0:1",
         ),
-        ("! x", 0, "tag - 21 0:0:0 1:0:1 1:0:1 false"),
+        ("! x", way_t::LEXEME(0), "tag - 21 0:0:0 1:0:1 1:0:1 false"),
         (
             "!<x",
-            0,
+            way_t::LEXEME(0),
             "while scanning a tag 0:0:0; did not find the expected '>' 3:0:3",
         ),
-        ("|", 0, "literal - 0:0:0 1:0:1 1:0:1 false"),
-        ("'a'", 0, "single 61 0:0:0 3:0:3 3:0:3 false"),
+        ("|", way_t::LEXEME(0), "literal - 0:0:0 1:0:1 1:0:1 false"),
+        ("'a'", way_t::LEXEME(0), "single 61 0:0:0 3:0:3 3:0:3 false"),
         (
             "a:]",
-            1,
+            way_t::LEXEME(1),
             "while scanning a plain scalar 0:0:0; found unexpected ':' 1:0:1",
         ),
     ];
-    let alloc = rt.alloc();
-    for (text, depth, want) in ROWS {
-        let shown = lexeme_read(alloc, text.as_bytes(), depth)?;
-        assert_eq!(rt; shown.as_str(), want, "{text}");
-    }
-    Ok(())
+    expect_read(&rt, rt.alloc(), &ROWS)
 }
 
 /// Names and tags of fewer and of more than sixteen bytes, and their offences, by the readers of their kinds.
 #[test]
 fn names_and_tags_read(rt: HostRuntime) -> Result<(), Fail> {
-    const ROWS: [(&str, u64, &str); 12] = [
-        ("&a_-9 x", 0, "anchor 615f2d39 0:0:0 5:0:5 5:0:5 false"),
-        ("*Z]", 1, "alias 5a 0:0:0 2:0:2 2:0:2 false"),
+    const ROWS: [(&str, way_t, &str); 12] = [
+        (
+            "&a_-9 x",
+            way_t::NAMED(0),
+            "anchor 615f2d39 0:0:0 5:0:5 5:0:5 false",
+        ),
+        ("*Z]", way_t::NAMED(1), "alias 5a 0:0:0 2:0:2 2:0:2 false"),
         (
             "*abcdefghijklmnopqrst uvwxyz012345678",
-            0,
+            way_t::NAMED(0),
             "alias 6162636465666768696a6b6c6d6e6f7071727374 0:0:0 21:0:21 21:0:21 false",
         ),
         (
             "*a.b xxxxxxxxxxxxxxxxxx",
-            0,
+            way_t::NAMED(0),
             "while scanning an alias 0:0:0; did not find expected alphabetic or numeric character 2:0:2",
         ),
         (
             "& abcdefghijklmnopqrst",
-            0,
+            way_t::NAMED(0),
             "while scanning an anchor 0:0:0; did not find expected alphabetic or numeric character 1:0:1",
         ),
         (
             "!abc xxxxxxxxxxxxxxxxxx",
-            0,
+            way_t::NAMED(0),
             "tag 21 616263 0:0:0 4:0:4 4:0:4 false",
         ),
         (
             "!a,b xxxxxxxxxxxxxxxxxx",
-            1,
+            way_t::NAMED(1),
             "tag 21 61 0:0:0 2:0:2 2:0:2 false",
         ),
         (
             "!a/b:c?d@e&f=g+h$i.j~l*m'n(o);_-9 x",
-            0,
+            way_t::NAMED(0),
             "tag 21 612f623a633f64406526663d672b6824692e6a7e6c2a6d276e286f293b5f2d39 0:0:0 33:0:33 33:0:33 false",
         ),
         (
             "!a%20b xxxxxxxxxxxxxxxxxx",
-            0,
+            way_t::NAMED(0),
             "tag 21 612062 0:0:0 6:0:6 6:0:6 false",
         ),
         (
             "!a!b%41c xxxxxxxxxxxxxxxxxx",
-            0,
+            way_t::NAMED(0),
             "tag 216121 624163 0:0:0 8:0:8 8:0:8 false",
         ),
         (
             "!!python/object:app.main.name x",
-            0,
+            way_t::NAMED(0),
             "tag 2121 707974686f6e2f6f626a6563743a6170702e6d61696e2e6e616d65 0:0:0 29:0:29 29:0:29 false",
         ),
         (
             "!a%2 xxxxxxxxxxxxxxxxxx",
-            0,
+            way_t::NAMED(0),
             "while parsing a tag 0:0:0; did not find URI escaped octet 2:0:2",
         ),
     ];
-    let alloc = rt.alloc();
-    for (text, depth, want) in ROWS {
-        let shown = named_read(alloc, text.as_bytes(), depth)?;
-        assert_eq!(rt; shown.as_str(), want, "{text}");
-    }
-    Ok(())
+    expect_read(&rt, rt.alloc(), &ROWS)
 }
 
 #[test]
@@ -1457,44 +1576,78 @@ fn refusal_of_memory(rt: HostRuntime) -> Result<(), Fail> {
 /// The stream end is at the start of a line: that of the end, or the next one.
 #[test]
 fn stream_ends_read(rt: HostRuntime) -> Result<(), Fail> {
-    const ROWS: [(&str, usize, &str); 3] = [
-        ("", 0, "end 0:0:0 0:0:0 0:0:0 false"),
-        ("a", 1, "end 1:1:0 1:1:0 1:1:0 false"),
-        ("a\n", 2, "end 2:1:0 2:1:0 2:1:0 false"),
+    const ROWS: [(&str, way_t, &str); 3] = [
+        ("", way_t::END(0), "end 0:0:0 0:0:0 0:0:0 false"),
+        ("a", way_t::END(1), "end 1:1:0 1:1:0 1:1:0 false"),
+        ("a\n", way_t::END(2), "end 2:1:0 2:1:0 2:1:0 false"),
     ];
-    let alloc = rt.alloc();
-    for (text, index, want) in ROWS {
-        let shown = stream_end_read(alloc, text.as_bytes(), index)?;
-        assert_eq!(rt; shown.as_str(), want, "{text}");
-    }
-    Ok(())
+    expect_read(&rt, rt.alloc(), &ROWS)
 }
 
 /// Lexemes of one character, each kind of them, and kinds of more than one.
 #[test]
 fn characters_read(rt: HostRuntime) -> Result<(), Fail> {
-    const ROWS: [(&str, bool, &str); 14] = [
-        ("--- a", false, "document start 0:0:0 3:0:3 3:0:3 false"),
-        ("---\n", true, "document start 0:0:0 3:0:3 3:0:3 false"),
-        ("...", false, "document end 0:0:0 3:0:3 3:0:3 false"),
-        ("...a", false, "no character"),
-        ("[a", false, "sequence start 0:0:0 1:0:1 1:0:1 false"),
-        ("{a", true, "mapping start 0:0:0 1:0:1 1:0:1 false"),
-        ("]", true, "sequence end 0:0:0 1:0:1 1:0:1 false"),
-        ("}", true, "mapping end 0:0:0 1:0:1 1:0:1 false"),
-        (",", true, "flow entry 0:0:0 1:0:1 1:0:1 false"),
-        ("- a", false, "block entry 0:0:0 1:0:1 1:0:1 false"),
-        ("?", false, "key 0:0:0 1:0:1 1:0:1 false"),
-        (": a", false, "value 0:0:0 1:0:1 1:0:1 false"),
-        (":a", true, "value 0:0:0 1:0:1 1:0:1 false"),
-        ("a", false, "no character"),
+    const ROWS: [(&str, way_t, &str); 14] = [
+        (
+            "--- a",
+            way_t::CHARACTER(false),
+            "document start 0:0:0 3:0:3 3:0:3 false",
+        ),
+        (
+            "---\n",
+            way_t::CHARACTER(true),
+            "document start 0:0:0 3:0:3 3:0:3 false",
+        ),
+        (
+            "...",
+            way_t::CHARACTER(false),
+            "document end 0:0:0 3:0:3 3:0:3 false",
+        ),
+        ("...a", way_t::CHARACTER(false), "no character"),
+        (
+            "[a",
+            way_t::CHARACTER(false),
+            "sequence start 0:0:0 1:0:1 1:0:1 false",
+        ),
+        (
+            "{a",
+            way_t::CHARACTER(true),
+            "mapping start 0:0:0 1:0:1 1:0:1 false",
+        ),
+        (
+            "]",
+            way_t::CHARACTER(true),
+            "sequence end 0:0:0 1:0:1 1:0:1 false",
+        ),
+        (
+            "}",
+            way_t::CHARACTER(true),
+            "mapping end 0:0:0 1:0:1 1:0:1 false",
+        ),
+        (
+            ",",
+            way_t::CHARACTER(true),
+            "flow entry 0:0:0 1:0:1 1:0:1 false",
+        ),
+        (
+            "- a",
+            way_t::CHARACTER(false),
+            "block entry 0:0:0 1:0:1 1:0:1 false",
+        ),
+        ("?", way_t::CHARACTER(false), "key 0:0:0 1:0:1 1:0:1 false"),
+        (
+            ": a",
+            way_t::CHARACTER(false),
+            "value 0:0:0 1:0:1 1:0:1 false",
+        ),
+        (
+            ":a",
+            way_t::CHARACTER(true),
+            "value 0:0:0 1:0:1 1:0:1 false",
+        ),
+        ("a", way_t::CHARACTER(false), "no character"),
     ];
-    let alloc = rt.alloc();
-    for (text, in_flow, want) in ROWS {
-        let shown = character_read(alloc, text.as_bytes(), in_flow)?;
-        assert_eq!(rt; shown.as_str(), want, "{text}");
-    }
-    Ok(())
+    expect_read(&rt, rt.alloc(), &ROWS)
 }
 
 /// A `:` is found outside of flow if a blank, a break or the end follows it, and in flow always; a `,`, `]` or `}` in
@@ -1523,7 +1676,7 @@ fn deciders(rt: HostRuntime) -> Result<(), Fail> {
     let alloc = rt.alloc();
     for (text, in_flow, want) in ROWS {
         let found = decider_at(alloc, text.as_bytes(), in_flow)?;
-        assert!(rt; found == want, "{text}");
+        expect_kind(&rt, text, found, want);
     }
     Ok(())
 }

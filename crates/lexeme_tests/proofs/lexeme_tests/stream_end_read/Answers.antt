@@ -5,4 +5,4 @@ use Rattle.lexeme_tests.proofs.lexeme_tests.stream_end_read.Goals as goal
 pub yaml_read_stream_end-requires : goal.yaml_read_stream_end-requires
 yaml_read_stream_end-requires c =
     let place = c.if-not-yaml_is_place.ensures.0 refl in
-    (place.0, (marks_counted c.in-Ok.text.chars c.args.index place.0 c.yaml_mark_at.result place.1).0 (c.yaml_mark_at.ensures place.0 place.1))
+    (place.0, (marks_counted c.in_ok-text.text.chars c.args.index place.0 c.yaml_mark_at.result place.1).0 (c.yaml_mark_at.ensures place.0 place.1))
