@@ -110,6 +110,12 @@ pub(crate) struct wanted_t<'a> {
     pub(crate) lines: &'a str,
 }
 
+/// The exit status of a command on an input, and what was written.
+fn answer_to(alloc: Global, command: &str, input: &[u8]) -> Result<(u8, Vec<u8>), Fail> {
+    let (outcome, written) = outcome_of(alloc, command, input, Vec::new(alloc))?;
+    Ok((yaml_status(&outcome), written))
+}
+
 /// Asserts the status of a command on an input, and what it writes.
 pub(crate) fn expect(
     rt: &(impl Abort + AllocGlobal),
@@ -117,9 +123,9 @@ pub(crate) fn expect(
     input: &[u8],
     wanted: wanted_t<'_>,
 ) -> Result<(), Fail> {
-    let (alloc, lines) = (rt.alloc(), wanted.lines);
-    let (outcome, written) = outcome_of(alloc, command, input, Vec::new(alloc))?;
-    assert_eq!(rt; yaml_status(&outcome), wanted.status, "{command}: {lines}");
+    let lines = wanted.lines;
+    let (status, written) = answer_to(rt.alloc(), command, input)?;
+    assert_eq!(rt; status, wanted.status, "{command}: {lines}");
     assert_eq!(rt; written.as_slice(), lines.as_bytes(), "{command}: {lines}");
     Ok(())
 }
@@ -131,26 +137,46 @@ const DEEP: [(&str, usize, u64); 3] = [
     ("- ", 50_000, 150_002),
 ];
 
+/// A part of an input that comes so many times.
+fn repeated(alloc: Global, part: &str, count: usize) -> Result<String, Fail> {
+    let mut input = String::new(alloc);
+    for _ in 0..count {
+        input.push_str(part)?;
+    }
+    Ok(input)
+}
+
+/// How many lines end in what was written.
+fn count_lines(written: &[u8]) -> u64 {
+    let mut lines: u64 = 0;
+    for byte in written {
+        if *byte == b'\n' {
+            lines = lines.wrapping_add(1);
+        }
+    }
+    lines
+}
+
+/// Asserts how many lines are written for a part of an input that comes so many times, and the last of them.
+fn expect_deep(
+    rt: &(impl Abort + AllocGlobal),
+    part: &str,
+    count: usize,
+    lines: u64,
+) -> Result<(), Fail> {
+    let input = repeated(rt.alloc(), part, count)?;
+    let (status, written) = answer_to(rt.alloc(), "scan any", input.as_bytes())?;
+    assert_eq!(rt; (status, count_lines(&written)), (0, lines), "{part}");
+    let last = b"STREAM-END 100000:1:0 100000:1:0\n";
+    assert!(rt; written.as_slice().ends_with(last), "{part}");
+    Ok(())
+}
+
 /// Depth and levels have no limit of their own.
 #[test]
 fn deep_inputs(rt: HostRuntime) -> Result<(), Fail> {
-    let alloc = rt.alloc();
-    for (part, count, lines) in DEEP {
-        let mut input = String::new(alloc);
-        for _ in 0..count {
-            input.push_str(part)?;
-        }
-        let (outcome, written) = outcome_of(alloc, "scan any", input.as_bytes(), Vec::new(alloc))?;
-        assert_eq!(rt; yaml_status(&outcome), 0, "{part}");
-        let mut seen: u64 = 0;
-        for byte in &written {
-            if *byte == b'\n' {
-                seen = seen.wrapping_add(1);
-            }
-        }
-        assert_eq!(rt; seen, lines, "{part}");
-        let last = b"STREAM-END 100000:1:0 100000:1:0\n";
-        assert!(rt; written.as_slice().ends_with(last), "{part}");
+    for (part, count, lines) in &DEEP {
+        expect_deep(&rt, part, *count, *lines)?;
     }
     Ok(())
 }
@@ -238,6 +264,17 @@ fn outcome_of_reads(
     outcome_of(alloc, command, reader, Vec::new(alloc))
 }
 
+/// Asserts an outcome, and its exit status.
+fn expect_outcome(
+    rt: &impl Abort,
+    outcome: &Result<bool, tool_fault_t>,
+    wanted: &Result<bool, tool_fault_t>,
+    status: u8,
+) {
+    assert_eq!(rt; outcome, wanted);
+    assert_eq!(rt; yaml_status(outcome), status);
+}
+
 /// A read that fails before the end, at any call, and one byte a call.
 fn expect_read(
     rt: &(impl Abort + AllocGlobal),
@@ -246,14 +283,13 @@ fn expect_read(
     calls: usize,
 ) -> Result<(), Fail> {
     let (outcome, written) = outcome_of_reads(rt.alloc(), command, calls)?;
-    let (wanted, status, lines) = if calls > 4 {
-        (Ok(false), 0, lines)
+    if calls > 4 {
+        expect_outcome(rt, &outcome, &Ok(false), 0);
+        assert_eq!(rt; written.as_slice(), lines.as_bytes());
     } else {
-        (Err(tool_fault_t::Read), 3, "")
-    };
-    assert_eq!(rt; outcome, wanted);
-    assert_eq!(rt; yaml_status(&outcome), status);
-    assert_eq!(rt; written.as_slice(), lines.as_bytes());
+        expect_outcome(rt, &outcome, &Err(tool_fault_t::Read), 3);
+        assert!(rt; written.is_empty());
+    }
     Ok(())
 }
 
@@ -279,10 +315,9 @@ fn expect_written(
     let (outcome, writer) = outcome_of(rt.alloc(), command, b"a: 1".as_slice(), writer)?;
     assert_eq!(rt; writer.taken.as_slice(), &lines[..count]);
     if count == lines.len() {
-        assert_eq!(rt; outcome, Ok(false));
+        expect_outcome(rt, &outcome, &Ok(false), 0);
     } else {
-        assert_eq!(rt; outcome, Err(tool_fault_t::Write));
-        assert_eq!(rt; yaml_status(&outcome), 3);
+        expect_outcome(rt, &outcome, &Err(tool_fault_t::Write), 3);
     }
     Ok(())
 }
@@ -298,22 +333,32 @@ fn writes_fail(rt: HostRuntime) -> Result<(), Fail> {
     Ok(())
 }
 
-/// A source and a sink say that they failed after a call that failed, and not before it.
-#[test]
-fn devices_say_that_they_failed(rt: HostRuntime) -> Result<(), Fail> {
+/// Whether a source says that it failed, before and after a read that fails, and what that read returns.
+fn source_says() -> (bool, bool, Result<usize, yaml_broken_t>) {
     let reader = slow_reader_t {
         bytes: b"a",
         at: 0,
         calls: 0,
     };
     let mut source = yaml_source_of_t::new(reader);
-    assert!(rt; !source.failed());
-    assert_eq!(rt; source.pull(&mut [0u8; 4]), Err(yaml_broken_t));
-    assert!(rt; source.failed());
-    let mut sink = yaml_sink_of_t::new(slow_writer(rt.alloc(), 0, false));
-    assert!(rt; !sink.failed());
-    assert_eq!(rt; sink.put(b"a"), Err(yaml_broken_t));
-    assert!(rt; sink.failed());
+    let before = source.failed();
+    let read = source.pull(&mut [0u8; 4]);
+    (before, source.failed(), read)
+}
+
+/// Whether a sink says that it failed, before and after a write that takes nothing, and what that write returns.
+fn sink_says(alloc: Global) -> (bool, bool, Result<usize, yaml_broken_t>) {
+    let mut sink = yaml_sink_of_t::new(slow_writer(alloc, 0, false));
+    let before = sink.failed();
+    let written = sink.put(b"a");
+    (before, sink.failed(), written)
+}
+
+/// A source and a sink say that they failed after a call that failed, and not before it.
+#[test]
+fn devices_say_that_they_failed(rt: HostRuntime) -> Result<(), Fail> {
+    assert_eq!(rt; source_says(), (false, true, Err(yaml_broken_t)));
+    assert_eq!(rt; sink_says(rt.alloc()), (false, true, Err(yaml_broken_t)));
     Ok(())
 }
 
