@@ -1,4 +1,5 @@
 //! Lines of tokens with short and long numbers, and of scalars at the edge of the room that a line has at first.
+use crate::tests::expect_lines;
 use std::alloc::{AllocError, Global};
 use std::process::Abort;
 use std::test::Fail;
@@ -128,6 +129,6 @@ KEY 9999:10000:10001 12345:99999:100000
 KEY 1234567:9999999:10000000 100000000:4294967295:4294967296
 KEY 9999999999999999999:10000000000000000000:1234567890123456789 20:30:40
 ";
-    assert_eq!(rt; out.as_slice(), lines.as_bytes());
+    expect_lines(&rt, "keys", &out, lines);
     Ok(())
 }

@@ -1,5 +1,6 @@
 //! The commands that scan, over devices in memory.
 use crate::tests::{expect, expect_wrong, slow_reader_t, wanted_t};
+use std::alloc::Global;
 use std::process::Abort;
 use std::test::Fail;
 use yaml_listing::run::run;
@@ -69,20 +70,26 @@ fn wrong_words_of_scans(rt: HostRuntime) -> Result<(), Fail> {
     expect_wrong(&rt, &WRONG)
 }
 
-/// Asserts that a command is wrong, and that nothing is read or written for it: the first read would fail.
-fn expect_unread(rt: &(impl Abort + AllocGlobal), command: yaml_command_t) -> Result<(), Fail> {
-    let alloc = rt.alloc();
+/// The outcome of a command if the first read would fail, whether that read was made, and how many bytes were written.
+fn outcome_unread(
+    alloc: Global,
+    command: &yaml_command_t,
+) -> (Result<bool, tool_fault_t>, bool, usize) {
     let mut source = yaml_source_of_t::new(slow_reader_t {
         bytes: b"a: 1",
         at: 0,
         calls: 0,
     });
     let mut sink = yaml_sink_of_t::new(Vec::new(alloc));
-    let outcome = run(alloc, &command, &mut source, &mut sink);
+    let outcome = run(alloc, command, &mut source, &mut sink);
+    (outcome, source.failed(), sink.inner.len())
+}
+
+/// Asserts that a command is wrong, and that nothing is read or written for it: the first read would fail.
+fn expect_unread(rt: &(impl Abort + AllocGlobal), command: yaml_command_t) -> Result<(), Fail> {
+    let (outcome, failed, written) = outcome_unread(rt.alloc(), &command);
     assert_eq!(rt; outcome, Err(tool_fault_t::Args));
-    assert_eq!(rt; yaml_status(&outcome), 2);
-    assert_eq!(rt; source.failed(), false);
-    assert_eq!(rt; sink.inner.len(), 0);
+    assert_eq!(rt; (yaml_status(&outcome), failed, written), (2, false, 0));
     Ok(())
 }
 

@@ -116,6 +116,11 @@ fn answer_to(alloc: Global, command: &str, input: &[u8]) -> Result<(u8, Vec<u8>)
     Ok((yaml_status(&outcome), written))
 }
 
+/// Asserts what was written for this.
+pub(crate) fn expect_lines(rt: &impl Abort, asked: &str, written: &[u8], lines: &str) {
+    assert_eq!(rt; written, lines.as_bytes(), "{asked}: {lines}");
+}
+
 /// Asserts the status of a command on an input, and what it writes.
 pub(crate) fn expect(
     rt: &(impl Abort + AllocGlobal),
@@ -126,7 +131,7 @@ pub(crate) fn expect(
     let lines = wanted.lines;
     let (status, written) = answer_to(rt.alloc(), command, input)?;
     assert_eq!(rt; status, wanted.status, "{command}: {lines}");
-    assert_eq!(rt; written.as_slice(), lines.as_bytes(), "{command}: {lines}");
+    expect_lines(rt, command, &written, lines);
     Ok(())
 }
 
@@ -285,10 +290,10 @@ fn expect_read(
     let (outcome, written) = outcome_of_reads(rt.alloc(), command, calls)?;
     if calls > 4 {
         expect_outcome(rt, &outcome, &Ok(false), 0);
-        assert_eq!(rt; written.as_slice(), lines.as_bytes());
+        expect_lines(rt, command, &written, lines);
     } else {
         expect_outcome(rt, &outcome, &Err(tool_fault_t::Read), 3);
-        assert!(rt; written.is_empty());
+        expect_lines(rt, command, &written, "");
     }
     Ok(())
 }
@@ -417,20 +422,23 @@ fn put_scanner_fault(
     list_fault(alloc, &fault, out)
 }
 
+/// Lists a fault of each form.
+fn put_faults(alloc: Global, out: &mut Vec<u8>) -> Result<(), AllocError> {
+    put_memory_fault(alloc, out)?;
+    put_scanner_fault(alloc, Some("while reading"), CONTEXT_AT, out)?;
+    put_scanner_fault(alloc, None, PROBLEM_AT, out)
+}
+
 #[test]
 fn listing_of_faults(rt: HostRuntime) -> Result<(), Fail> {
-    let alloc = rt.alloc();
-    let mut out = Vec::new(alloc);
-    out.push(b'>')?;
-    put_memory_fault(alloc, &mut out)?;
-    put_scanner_fault(alloc, Some("while reading"), CONTEXT_AT, &mut out)?;
-    put_scanner_fault(alloc, None, PROBLEM_AT, &mut out)?;
+    let mut out = Vec::from_slice(rt.alloc(), b">")?;
+    put_faults(rt.alloc(), &mut out)?;
     let lines = "\
 >FAULT memory
 FAULT scanner 7:1:0 9:1:2 while reading; found no end
 FAULT scanner 9:1:2 9:1:2 -; found no end
 ";
-    assert_eq!(rt; out.as_slice(), lines.as_bytes());
+    expect_lines(&rt, "faults", &out, lines);
     Ok(())
 }
 
@@ -578,10 +586,8 @@ fn put_tokens(alloc: Global, out: &mut Vec<u8>) -> Result<(), AllocError> {
 
 #[test]
 fn listing_of_tokens(rt: HostRuntime) -> Result<(), Fail> {
-    let alloc = rt.alloc();
-    let mut out = Vec::new(alloc);
-    out.push(b'>')?;
-    put_tokens(alloc, &mut out)?;
+    let mut out = Vec::from_slice(rt.alloc(), b">")?;
+    put_tokens(rt.alloc(), &mut out)?;
     let lines = "\
 >NO-TOKEN
 TAG 0:0:0 4:0:4 21 00
@@ -601,7 +607,7 @@ SCALAR 0:0:0 4:0:4 folded 00099fa0ff
 SCALAR 0:0:0 4:0:4 literal -
 BLOCK-MAPPING-START 0:0:0 4:0:4
 ";
-    assert_eq!(rt; out.as_slice(), lines.as_bytes());
+    expect_lines(&rt, "tokens", &out, lines);
     Ok(())
 }
 
@@ -627,6 +633,6 @@ PEEK STREAM-START 0:0:0 4:0:4
 PEEK SCALAR 0:0:0 4:0:4
 PEEK FLOW-MAPPING-END 0:0:0 4:0:4
 ";
-    assert_eq!(rt; out.as_slice(), lines.as_bytes());
+    expect_lines(&rt, "peeks", &out, lines);
     Ok(())
 }
