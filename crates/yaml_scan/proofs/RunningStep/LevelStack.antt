@@ -4,7 +4,7 @@ use Rattle.yaml_scan.specs.Kind.{Kind, closes_all, is_stream_end}
 use Rattle.yaml_text.specs.declared.types.yaml_mark_t.{yaml_mark_t}
 use Rattle.std.proofs.Common.{◌≡◌, ℕ, Bool, true, false, ◌≤◌, ◌-◌, not, length, length-append, slice_get, Option, Some, sym}
 use Rattle.std.proofs.Common.{◌∙◌, subst, List, [], ◌∷◌, ◌++◌, reverse, filter, leb, le-leb, refl, ap, arith, ◌+◌, map}
-use Rattle.std.proofs.Common.{le-ltb, ltb-false, None, inl, inr, take}
+use Rattle.std.proofs.Common.{le-ltb, ltb-false, None, inl, inr, take, ◌<◌, MatchOption}
 use Rattle.std.specs.Option.{is_some}
 use Rattle.std.proofs.lemmas.List.{reverse-append, reverse-reverse}
 use Rattle.yaml_scan.specs.Levels.{stays, greatest_level}
@@ -162,6 +162,35 @@ closed_top f k m xs g e = go (reverse xs) refl
         let h : IsFalling (c ∷ cs) = rw q at g in
         let s = closes c cs (rw q at e) in
         record { falls = subst (λ (l : List ℕ). IsFalling l) (sym w) h.1; same = ap (λ (l : List ℕ). filter (stays f k m) l) w ∙ sym (kept_without f k m c cs s) ∙ ap (λ (l : List ℕ). filter (stays f k m) l) (sym q) }
+
+-- where the top is closed, it is counted with the rest
+pub counted_top : (f : Bool) (k : Kind) (m : yaml_mark_t) (u : ℕ → Bool) (c : ℕ) (xs : List ℕ) → closing f k m (reverse xs) ≡ Some c → length (filter u (filter (λ l. not (stays f k m l)) (reverse xs))) ≡ (if u c then 1 else 0) + length (filter u (filter (λ l. not (stays f k m l)) (reverse (take (length xs - 1) xs))))
+counted_top f k m u c xs e = go (reverse xs) refl
+  where
+    top_is : (d : ℕ) (ds : List ℕ) → closing f k m (d ∷ ds) ≡ Some c → d ≡ c
+    top_is d ds q = elim (cases_Bool (stays f k m d)) [
+      | inl s ↦ (let g : None ≡ Some c = rw s at q in absurd (cc))
+      | inr s ↦ (let g : Some d ≡ Some c = rw s at q in cc)
+    ]
+
+    go : (ys : List ℕ) → reverse xs ≡ ys → length (filter u (filter (λ l. not (stays f k m l)) (reverse xs))) ≡ (if u c then 1 else 0) + length (filter u (filter (λ l. not (stays f k m l)) (reverse (take (length xs - 1) xs))))
+    go [] q = (let v : closing f k m [] ≡ Some c = rw q at e in absurd (cc))
+    go (d ∷ ds) q =
+        let h : closing f k m (d ∷ ds) ≡ Some c = rw q at e in
+        let t = top_is d ds h in
+        let h2 : closing f k m (d ∷ ds) ≡ Some d = h ∙ ap (λ (x : ℕ). Some x) (sym t) in
+        ap (λ (l : List ℕ). length (filter u (filter (λ z. not (stays f k m z)) l))) q ∙ one_closed f k m u d ds h2
+        ∙ ap (λ (x : ℕ). (if u x then 1 else 0) + length (filter u (filter (λ z. not (stays f k m z)) ds))) t
+        ∙ ap (λ (l : List ℕ). (if u c then 1 else 0) + length (filter u (filter (λ z. not (stays f k m z)) l))) (sym (without_top xs d ds q))
+
+-- a stack whose top is closed is not empty, so one level is taken from it
+pub closes_one : (f : Bool) (k : Kind) (m : yaml_mark_t) (c : ℕ) (xs : List ℕ) → closing f k m (reverse xs) ≡ Some c → 0 < length xs
+closes_one f k m c [] e = (let v : None ≡ Some c = e in absurd (cc))
+closes_one f k m c (x ∷ xs) e = omega arith
+
+pub one_popped : (o : Option ℕ) (a b : ℕ) → MatchOption o ((a ≡ 0) × (b ≡ 0)) (λ _. b + 1 ≡ a) → 0 < a → b + 1 ≡ a
+one_popped None a b q l = (let e = q.0 in absurd (omega arith))
+one_popped (Some x) a b q l = q
 
 pub none_is : (o : Option ℕ) → is_some o ≡ false → o ≡ None
 none_is None e = refl

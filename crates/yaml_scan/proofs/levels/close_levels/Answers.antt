@@ -1,7 +1,18 @@
-use Rattle.std.proofs.Common.{◌≡◌, ℕ, List, None, reverse, filter, length, not, sym, ap, ◌∙◌, arith}
+use Rattle.std.proofs.Common.{◌≡◌, ℕ, List, None, Some, true, false, is_some, take, ◌-◌, ◌<◌, vec_len, reverse, filter, length, not, sym, ap, ◌∙◌, arith}
 use Rattle.yaml_scan.specs.Levels.{stays}
 use Rattle.yaml_scan.specs.inside.Queue.{closing}
-use Rattle.yaml_scan.proofs.RunningStep.LevelStack.{ends_early, all_kept, none_closed, ends_split, none_early, filter_falls}
+use Rattle.yaml_scan.proofs.RunningStep.LevelStack.{
+  ends_early,
+  all_kept,
+  none_closed,
+  ends_split,
+  none_early,
+  filter_falls,
+  closed_top,
+  counted_top,
+  closes_one,
+  one_popped,
+}
 use Rattle.yaml_scan.proofs.levels.close_levels.Goals as goal
 
 pub returns-clause-levels : goal.returns-clause-levels
@@ -24,3 +35,53 @@ returns-clause-ends c =
 
 pub returns-clause-none : goal.returns-clause-none
 returns-clause-none c = λ s. let v = c.loop-last.invariant.early in let n = none_early c.args.step.kind c.args.gap_end c.args.step.new.start (filter (λ l. not (stays c.args.step.in_flow c.args.step.kind c.args.step.new.start l)) (reverse c.args.levels.now.items)) s in omega arith
+
+pub loop-last-preserved-then-ends_early : goal.loop-last-preserved-then-ends_early
+loop-last-preserved-then-ends_early c =
+    let k = c.args.step.kind in
+    let m = c.args.step.new.start in
+    let xs = c.loop-last.levels.items in
+    let closed : closing c.args.step.in_flow k m (reverse xs) ≡ Some c.in-Some.last = ap (λ (l : List ℕ). closing c.args.step.in_flow k m (reverse l)) (sym c.deref.ensures.value) ∙ sym c.closing.ensures ∙ c.in-Some.is in
+    let s = closed_top c.args.step.in_flow k m xs c.loop-last.invariant.falls (ap is_some closed) in
+    let t : ends_early k c.args.gap_end m c.in-Some.last ≡ true = sym c.ends_early.ensures ∙ c.if-ends_early.true in
+    let a = rw t at (counted_top c.args.step.in_flow k m (ends_early k c.args.gap_end m) c.in-Some.last xs closed) in
+    let b = rw t at (counted_top c.args.step.in_flow k m (λ d. not (ends_early k c.args.gap_end m d)) c.in-Some.last xs closed) in
+    let v = c.loop-last.invariant.early in
+    let w = c.loop-last.invariant.late in
+    let n : length xs ≡ vec_len c.loop-last.levels = omega (arith, ap (λ (l : List ℕ). length l) c.deref.ensures.value, c.deref.ensures.len) in
+    let o : 0 < length xs = closes_one c.args.step.in_flow k m c.in-Some.last xs closed in
+    let p = one_popped c.pop.result (vec_len c.loop-last.levels) (vec_len c.pop.new.self) c.pop.ensures.cases (omega arith) in
+    let z = c.loop-last.invariant.few in
+    rw (c.pop.ensures.rest ∙ ap (λ (j : ℕ). take (j - 1) xs) (sym n)) (record {
+      falls = s.falls;
+      same = s.same ∙ c.loop-last.invariant.same;
+      early = omega arith;
+      late = omega arith;
+      few = omega arith;
+      room = c.pop.ensures.capacity ∙ c.loop-last.invariant.room;
+    })
+
+pub loop-last-preserved : goal.loop-last-preserved
+loop-last-preserved c =
+    let k = c.args.step.kind in
+    let m = c.args.step.new.start in
+    let xs = c.loop-last.levels.items in
+    let closed : closing c.args.step.in_flow k m (reverse xs) ≡ Some c.in-Some.last = ap (λ (l : List ℕ). closing c.args.step.in_flow k m (reverse l)) (sym c.deref.ensures.value) ∙ sym c.closing.ensures ∙ c.in-Some.is in
+    let s = closed_top c.args.step.in_flow k m xs c.loop-last.invariant.falls (ap is_some closed) in
+    let t : ends_early k c.args.gap_end m c.in-Some.last ≡ false = sym c.ends_early.ensures ∙ c.if-ends_early.false in
+    let a = rw t at (counted_top c.args.step.in_flow k m (ends_early k c.args.gap_end m) c.in-Some.last xs closed) in
+    let b = rw t at (counted_top c.args.step.in_flow k m (λ d. not (ends_early k c.args.gap_end m d)) c.in-Some.last xs closed) in
+    let v = c.loop-last.invariant.early in
+    let w = c.loop-last.invariant.late in
+    let n : length xs ≡ vec_len c.loop-last.levels = omega (arith, ap (λ (l : List ℕ). length l) c.deref.ensures.value, c.deref.ensures.len) in
+    let o : 0 < length xs = closes_one c.args.step.in_flow k m c.in-Some.last xs closed in
+    let p = one_popped c.pop.result (vec_len c.loop-last.levels) (vec_len c.pop.new.self) c.pop.ensures.cases (omega arith) in
+    let z = c.loop-last.invariant.few in
+    rw (c.pop.ensures.rest ∙ ap (λ (j : ℕ). take (j - 1) xs) (sym n)) (record {
+      falls = s.falls;
+      same = s.same ∙ c.loop-last.invariant.same;
+      early = omega arith;
+      late = omega arith;
+      few = omega arith;
+      room = c.pop.ensures.capacity ∙ c.loop-last.invariant.room;
+    })
