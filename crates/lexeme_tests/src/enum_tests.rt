@@ -31,8 +31,8 @@ fn hash_of<T: Hash>(value: &T) -> u64 {
     hasher.finish()
 }
 
-/// What comparisons tell of two values: whether the first is less, their order twice, and whether they are equal and have
-/// the same hash.
+/// What comparisons tell of two values: whether the first is less, their order by `cmp` and by `partial_cmp`, whether
+/// they are equal, and whether they have the same hash.
 fn compared<T: Copy + Ord + Hash>(a: &T, b: &T) -> (bool, Ordering, Option<Ordering>, bool, bool) {
     (
         a < b,
