@@ -98,40 +98,59 @@ fn sequences_at_once(rt: HostRuntime) -> Result<(), Fail> {
     Ok(())
 }
 
-#[test]
-fn scans(rt: HostRuntime) -> Result<(), Fail> {
-    let input = repeated(rt.alloc(), "[")?;
-    let mut parser = yaml_parser_t::new(rt.alloc(), input.as_bytes(), ANY);
-    for _ in 1..TOKENS {
-        match yaml_parser_scan(&mut parser) {
-            Ok(token) => assert!(rt; !is_last(&token)),
-            Err(_) => return Err("a fault".into()),
+/// Takes the next token. Returns whether it is the stream end.
+fn takes_the_end(parser: &mut yaml_parser_t) -> Result<bool, Fail> {
+    match yaml_parser_scan(parser) {
+        Ok(token) => Ok(is_last(&token)),
+        Err(_) => Err("a fault".into()),
+    }
+}
+
+/// Shows the next token, and skips it. Returns whether it is the stream end.
+fn skips_the_end(parser: &mut yaml_parser_t) -> Result<bool, Fail> {
+    let last = match yaml_parser_peek(parser) {
+        Ok(token) => is_last(token),
+        Err(_) => return Err("a fault".into()),
+    };
+    if yaml_parser_has_token(parser) {
+        yaml_parser_skip(parser);
+    }
+    Ok(last)
+}
+
+/// How many scans it takes to the stream end.
+fn scanned(alloc: Global) -> Result<usize, Fail> {
+    let input = repeated(alloc, "[")?;
+    let mut parser = yaml_parser_t::new(alloc, input.as_bytes(), ANY);
+    for n in 1..100_000 {
+        if takes_the_end(&mut parser)? {
+            return Ok(n);
         }
     }
-    match yaml_parser_scan(&mut parser) {
-        Ok(token) => assert!(rt; is_last(&token)),
-        Err(_) => return Err("a fault in the place of the stream end".into()),
-    }
+    Err("no stream end".into())
+}
+
+#[test]
+fn scans(rt: HostRuntime) -> Result<(), Fail> {
+    assert_eq!(rt; scanned(rt.alloc())?, TOKENS);
     Ok(())
+}
+
+/// How many peeks, each with a skip, it takes to the stream end.
+fn skipped(alloc: Global) -> Result<usize, Fail> {
+    let input = repeated(alloc, "[")?;
+    let mut parser = yaml_parser_t::new(alloc, input.as_bytes(), ANY);
+    for n in 1..100_000 {
+        if skips_the_end(&mut parser)? {
+            return Ok(n);
+        }
+    }
+    Err("no stream end".into())
 }
 
 #[test]
 fn peeks_and_skips(rt: HostRuntime) -> Result<(), Fail> {
-    let input = repeated(rt.alloc(), "[")?;
-    let mut parser = yaml_parser_t::new(rt.alloc(), input.as_bytes(), ANY);
-    for _ in 1..TOKENS {
-        match yaml_parser_peek(&mut parser) {
-            Ok(token) => assert!(rt; !is_last(token)),
-            Err(_) => return Err("a fault".into()),
-        }
-        if yaml_parser_has_token(&parser) {
-            yaml_parser_skip(&mut parser);
-        }
-    }
-    match yaml_parser_peek(&mut parser) {
-        Ok(token) => assert!(rt; is_last(token)),
-        Err(_) => return Err("a fault in the place of the stream end".into()),
-    }
+    assert_eq!(rt; skipped(rt.alloc())?, TOKENS);
     Ok(())
 }
 

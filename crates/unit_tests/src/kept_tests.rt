@@ -205,15 +205,42 @@ fn tokens_go_on_while_there_is_room(rt: HostRuntime) -> Result<(), Fail> {
     Ok(())
 }
 
+/// Gives tokens to a sink that has room for so many. Returns whether a fault is told, whether the session is over, and
+/// whether it has a fault.
+fn told(held: &mut held_t, shelf: &mut shelf_t, room: u128) -> (bool, bool, bool)
+    requires { (p : Parser) × (p.input ≡ held.old.input.now) × IsKept p held.old.kept }
+    ensures { (p : Parser) × (p.input ≡ held.new.input.now) × IsKept p held.new.kept }
+{
+    shelf.room = room;
+    shelf.texts = 100;
+    let faulty = held.scan_to(shelf);
+    (faulty, held.kept.is_over(), held.kept.fault().is_some())
+}
+
+/// Shows the next token. Returns whether a fault is told, whether the session is over, whether it has a fault, and
+/// whether a token is shown.
+fn looked(held: &mut held_t) -> (bool, bool, bool, bool)
+    requires { (p : Parser) × (p.input ≡ held.old.input.now) × IsKept p held.old.kept }
+    ensures { (p : Parser) × (p.input ≡ held.new.input.now) × IsKept p held.new.kept }
+{
+    let faulty = held.peek();
+    let kept = &held.kept;
+    (
+        faulty,
+        kept.is_over(),
+        kept.fault().is_some(),
+        kept.peeked().is_some(),
+    )
+}
+
 /// A sink without room gets no token, and none is shown to it.
 #[test]
 fn no_token_goes_where_there_is_no_room(rt: HostRuntime) -> Result<(), Fail> {
     let mut held = held_t::new(rt.alloc(), b"a");
     let mut shelf = shelf_t::new(rt.alloc(), b"a");
-    assert!(rt; !held.scan_to(&mut shelf));
+    assert_eq!(rt; told(&mut held, &mut shelf, 0), (false, false, false));
     assert_eq!(rt; shelf.tokens, 0);
     assert!(rt; held.kept.peeked().is_none());
-    assert!(rt; !held.kept.is_over());
     Ok(())
 }
 
@@ -278,16 +305,31 @@ fn peeked_token_is_the_next(rt: HostRuntime) -> Result<(), Fail> {
 fn nothing_comes_after_the_end(rt: HostRuntime) -> Result<(), Fail> {
     let mut held = held_t::new(rt.alloc(), b"a");
     let mut shelf = shelf_t::new(rt.alloc(), b"a");
-    'calls: for _ in 0..2 {
-        shelf.room = 10;
-        shelf.texts = 10;
-        assert!(rt; !held.scan_to(&mut shelf));
-        assert!(rt; held.kept.is_over());
-        assert_eq!(rt; shelf.tokens, 3);
-    }
-    assert!(rt; !held.peek());
-    assert!(rt; held.kept.peeked().is_none());
+    assert_eq!(rt; told(&mut held, &mut shelf, 10), (false, true, false));
+    assert_eq!(rt; shelf.tokens, 3);
+    assert_eq!(rt; told(&mut held, &mut shelf, 10), (false, true, false));
+    assert_eq!(rt; shelf.tokens, 3);
+    assert_eq!(rt; looked(&mut held), (false, true, false, false));
     Ok(())
+}
+
+/// Makes nine calls with room for so many tokens. Returns how many tokens the sink got and how many of them are wrong,
+/// if this call alone tells a fault, and the session is over and has a fault from it on.
+fn told_at(
+    alloc: Global,
+    input: &[u8],
+    room: u128,
+    telling: usize,
+) -> Result<(usize, usize), Fail> {
+    let mut held = held_t::new(alloc, input);
+    let mut shelf = shelf_t::new(alloc, input);
+    'calls: for call in 1..10 {
+        let ended = call >= telling;
+        if told(&mut held, &mut shelf, room) != (call == telling, ended, ended) {
+            return Err("the fault is told at another call".into());
+        }
+    }
+    Ok((shelf.tokens, shelf.wrong))
 }
 
 /// The tokens before a fault go to the sink, and then the fault is told once, and kept.
@@ -297,19 +339,12 @@ fn fault_comes_after_its_tokens(rt: HostRuntime) -> Result<(), Fail> {
         b"a: b: c".as_slice(),
         b"\xFE\xFF\0a\0:\0 \0b\0:\0 \0c".as_slice(),
     ] {
-        for (room, calls) in [(1, 7), (3, 3), (100, 1)] {
-            let mut held = held_t::new(rt.alloc(), input);
-            let mut shelf = shelf_t::new(rt.alloc(), input);
-            'calls: for call in 1..10 {
-                shelf.room = room;
-                shelf.texts = 100;
-                let ends = held.scan_to(&mut shelf);
-                assert_eq!(rt; ends, call == calls, "{room} {call}");
-                assert_eq!(rt; held.kept.is_over(), call >= calls);
-                assert_eq!(rt; held.kept.fault().is_some(), call >= calls);
-            }
-            assert_eq!(rt; shelf.tokens, 6, "{room}");
-            assert_eq!(rt; shelf.wrong, 0);
+        for (room, telling) in [(1, 7), (3, 3), (100, 1)] {
+            assert_eq!(rt;
+                told_at(rt.alloc(), input, room, telling)?,
+                (6, 0),
+                "{room}"
+            );
         }
     }
     Ok(())
@@ -321,12 +356,8 @@ fn peek_finds_the_fault(rt: HostRuntime) -> Result<(), Fail> {
     let input = b"\xFF";
     let mut held = held_t::new(rt.alloc(), input);
     assert!(rt; held.kept.fault().is_none());
-    assert!(rt; held.peek());
-    assert!(rt; held.kept.is_over());
-    assert!(rt; held.kept.fault().is_some());
-    assert!(rt; held.kept.peeked().is_none());
-    assert!(rt; !held.peek());
-    assert!(rt; held.kept.peeked().is_none());
+    assert_eq!(rt; looked(&mut held), (true, true, true, false));
+    assert_eq!(rt; looked(&mut held), (false, true, true, false));
     Ok(())
 }
 

@@ -151,41 +151,52 @@ fn session_of_peeks_and_skips(rt: HostRuntime) -> Result<(), Fail> {
     Ok(())
 }
 
+/// The type that a call gives, and how many steps are queued and how far the text was read after it.
+fn met(
+    parser: &mut yaml_parser_t,
+    call: u8,
+) -> Result<(yaml_token_type_t, u64, yaml_mark_t), Fail> {
+    let kind = called(parser, call)?;
+    Ok((kind, yaml_parser_queued(parser), yaml_parser_mark(parser)))
+}
+
 /// How many steps are queued, and how far the text was read, after each call.
 #[test]
 fn settled_tokens_need_few_steps(rt: HostRuntime) -> Result<(), Fail> {
-    let any = yaml_encoding_t::YAML_ANY_ENCODING;
-    let mut parser = yaml_parser_t::new(rt.alloc(), b"&a b: c", any);
-    let front = yaml_mark_t {
+    const FRONT: yaml_mark_t = yaml_mark_t {
         index: 0,
         line: 0,
         column: 0,
     };
-    let value = yaml_mark_t {
+    const VALUE: yaml_mark_t = yaml_mark_t {
         index: 5,
         line: 0,
         column: 5,
     };
-    for (call, kind, queued, mark) in [
-        (b's', yaml_token_type_t::YAML_STREAM_START_TOKEN, 0, front),
+    const ROWS: [(u8, yaml_token_type_t, u64, yaml_mark_t); 5] = [
+        (b's', yaml_token_type_t::YAML_STREAM_START_TOKEN, 0, FRONT),
         (
             b'p',
             yaml_token_type_t::YAML_BLOCK_MAPPING_START_TOKEN,
             3,
-            value,
+            VALUE,
         ),
         (
             b's',
             yaml_token_type_t::YAML_BLOCK_MAPPING_START_TOKEN,
             3,
-            value,
+            VALUE,
         ),
-        (b's', yaml_token_type_t::YAML_KEY_TOKEN, 3, value),
-        (b's', yaml_token_type_t::YAML_ANCHOR_TOKEN, 2, value),
-    ] {
-        assert_eq!(rt; called(&mut parser, call)?, kind);
-        assert_eq!(rt; yaml_parser_queued(&parser), queued);
-        assert_eq!(rt; yaml_parser_mark(&parser), mark);
+        (b's', yaml_token_type_t::YAML_KEY_TOKEN, 3, VALUE),
+        (b's', yaml_token_type_t::YAML_ANCHOR_TOKEN, 2, VALUE),
+    ];
+    let any = yaml_encoding_t::YAML_ANY_ENCODING;
+    let mut parser = yaml_parser_t::new(rt.alloc(), b"&a b: c", any);
+    for (call, kind, queued, mark) in ROWS {
+        let (met_kind, met_queued, met_mark) = met(&mut parser, call)?;
+        assert_eq!(rt; met_kind, kind);
+        assert_eq!(rt; met_queued, queued);
+        assert_eq!(rt; met_mark, mark);
     }
     Ok(())
 }
@@ -256,25 +267,39 @@ fn near_the_end_of_a_refused_text(rt: HostRuntime) -> Result<(), Fail> {
     Ok(())
 }
 
-#[test]
-fn session_ends_with_one_fault(rt: HostRuntime) -> Result<(), Fail> {
+/// A parser of an input after so many scans, and after a peek that found the fault.
+fn faulted(alloc: Global, input: &[u8], scans: usize) -> Result<yaml_parser_t, Fail> {
     let any = yaml_encoding_t::YAML_ANY_ENCODING;
-    let mut parser = yaml_parser_t::new(rt.alloc(), b"a: b: c", any);
-    for _ in 0..6 {
+    let mut parser = yaml_parser_t::new(alloc, input, any);
+    for _ in 0..scans {
         let _ = called(&mut parser, b's')?;
     }
-    assert!(rt; yaml_parser_peek(&mut parser).is_err());
-    for call in [b'p', b's'] {
-        assert_eq!(rt;
-            called(&mut parser, call)?,
-            yaml_token_type_t::YAML_NO_TOKEN
-        );
-        assert!(rt; !yaml_parser_has_token(&parser));
+    match yaml_parser_peek(&mut parser) {
+        Ok(_) => Err("no fault".into()),
+        Err(_) => Ok(parser),
     }
-    match yaml_parser_fault(&parser) {
-        Some(fault) => assert_eq!(rt; fault.problem_mark.column, 4),
-        None => return Err("no fault".into()),
+}
+
+/// Whether a call gives no token, and none is there to skip after it.
+fn gives_nothing(parser: &mut yaml_parser_t, call: u8) -> Result<bool, Fail> {
+    let kind = called(parser, call)?;
+    Ok(kind == yaml_token_type_t::YAML_NO_TOKEN && !yaml_parser_has_token(parser))
+}
+
+/// The column of the problem, if a session ended with a fault.
+fn fault_column(parser: &yaml_parser_t) -> Option<u64> {
+    match yaml_parser_fault(parser) {
+        Some(fault) => Some(fault.problem_mark.column),
+        None => None,
     }
+}
+
+#[test]
+fn session_ends_with_one_fault(rt: HostRuntime) -> Result<(), Fail> {
+    let mut parser = faulted(rt.alloc(), b"a: b: c", 6)?;
+    assert!(rt; gives_nothing(&mut parser, b'p')?);
+    assert!(rt; gives_nothing(&mut parser, b's')?);
+    assert_eq!(rt; fault_column(&parser), Some(4));
     Ok(())
 }
 

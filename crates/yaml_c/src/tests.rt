@@ -40,34 +40,56 @@ const NO_ANSWER: bogzhami_answer = bogzhami_answer {
     context_len: 77,
 };
 
+/// Scans an input with the usual key limit. Returns the status and the answer.
+fn scanned(
+    rt: HostRuntime,
+    input: &[u8],
+    tokens: &mut [bogzhami_token],
+    texts: &mut [u8],
+) -> (u32, bogzhami_answer) {
+    let mut out = NO_ANSWER;
+    let status = bogzhami_scan_all(rt.alloc(), input, 0, KEY_LIMIT, tokens, texts, &mut out);
+    (status, out)
+}
+
+/// The counts of an answer, and the number of the kind of fault.
+fn counted(out: &bogzhami_answer) -> (u64, u64, u32) {
+    (out.token_count, out.text_len, out.error)
+}
+
 const TAGGED: &[u8] = b"!a!xkey\n|\n";
+
+/// The numbers of a record's type and of its detail, and the major version.
+fn said(token: &bogzhami_token) -> (u32, u32, i32) {
+    (token.token_type, token.detail, token.major)
+}
+
+/// Where the texts of a record begin and how long they are, and where its value stands in the input.
+fn placed(token: &bogzhami_token) -> (u64, u64, u64, u64) {
+    (
+        token.text_at,
+        token.first_len,
+        token.second_len,
+        token.input_at,
+    )
+}
 
 /// A tag with a handle and a suffix, and an empty literal scalar.
 #[test]
 fn records_and_texts(rt: HostRuntime) -> Result<(), Fail> {
     let mut tokens = [NO_TOKEN; 5];
     let mut texts = [77u8; 8];
-    let mut out = NO_ANSWER;
-    let status = bogzhami_scan_all(
-        rt.alloc(),
-        TAGGED,
-        0,
-        KEY_LIMIT,
-        &mut tokens,
-        &mut texts,
-        &mut out,
-    );
-    assert_eq!(rt; (status, out.token_count, out.text_len), (0, 4, 7));
-    assert_eq!(rt; (out.error, out.problem_len, out.context_len), (0, 0, 0));
+    let (status, out) = scanned(rt, TAGGED, &mut tokens, &mut texts);
+    assert_eq!(rt; (status, counted(&out)), (0, (4, 7, 0)));
+    assert_eq!(rt; (out.problem_len, out.context_len), (0, 0));
     assert_eq!(rt; texts, *b"!a!xkeyM");
     let [start, tag, scalar, end, rest] = tokens;
-    assert_eq!(rt; (start.token_type, start.detail), (1, 1));
-    assert_eq!(rt; (tag.token_type, tag.detail, tag.major), (20, 0, 0));
-    assert_eq!(rt; (tag.text_at, tag.first_len, tag.second_len), (0, 3, 4));
+    assert_eq!(rt; said(&start), (1, 1, 0));
+    assert_eq!(rt; said(&tag), (20, 0, 0));
+    assert_eq!(rt; placed(&tag), (0, 3, 4, u64::MAX));
     assert_eq!(rt; (tag.start_mark.index, tag.end_mark.index), (0, 7));
-    assert_eq!(rt; tag.input_at, u64::MAX);
-    assert_eq!(rt; (scalar.token_type, scalar.detail), (21, 4));
-    assert_eq!(rt; (scalar.text_at, scalar.first_len), (7, 0));
+    assert_eq!(rt; said(&scalar), (21, 4, 0));
+    assert_eq!(rt; placed(&scalar), (7, 0, 0, u64::MAX));
     assert_eq!(rt; (scalar.start_mark.line, scalar.end_mark.line), (1, 2));
     assert_eq!(rt; (end.token_type, rest.token_type), (2, 77));
     Ok(())
@@ -78,21 +100,8 @@ fn records_and_texts(rt: HostRuntime) -> Result<(), Fail> {
 fn fault_and_its_texts(rt: HostRuntime) -> Result<(), Fail> {
     let mut tokens = [NO_TOKEN; 3];
     let mut texts = [77u8; 64];
-    let mut out = NO_ANSWER;
-    let input = b"!!a\n\"\" \"\n";
-    let status = bogzhami_scan_all(
-        rt.alloc(),
-        input,
-        0,
-        KEY_LIMIT,
-        &mut tokens,
-        &mut texts,
-        &mut out,
-    );
-    assert_eq!(rt;
-        (status, out.token_count, out.text_len, out.error),
-        (1, 2, 3, 3)
-    );
+    let (status, out) = scanned(rt, b"!!a\n\"\" \"\n", &mut tokens, &mut texts);
+    assert_eq!(rt; (status, counted(&out)), (1, (2, 3, 3)));
     assert_eq!(rt; (out.problem_mark.index, out.context_mark.index), (9, 7));
     assert_eq!(rt; (out.problem_len, out.context_len), (30, 30));
     assert_eq!(rt;
@@ -107,17 +116,8 @@ fn fault_and_its_texts(rt: HostRuntime) -> Result<(), Fail> {
 fn rooms_that_are_too_small(rt: HostRuntime) -> Result<(), Fail> {
     let mut tokens = [NO_TOKEN; 1];
     let mut texts = [77u8; 4];
-    let mut out = NO_ANSWER;
-    let status = bogzhami_scan_all(
-        rt.alloc(),
-        TAGGED,
-        0,
-        KEY_LIMIT,
-        &mut tokens,
-        &mut texts,
-        &mut out,
-    );
-    assert_eq!(rt; (status, out.token_count, out.text_len), (0, 4, 7));
+    let (status, out) = scanned(rt, TAGGED, &mut tokens, &mut texts);
+    assert_eq!(rt; (status, counted(&out)), (0, (4, 7, 0)));
     assert_eq!(rt; tokens[0].token_type, 1);
     assert_eq!(rt; texts, *b"!a!x");
     Ok(())
@@ -133,65 +133,72 @@ fn is_untouched(token: &bogzhami_token) -> bool {
         && marks.iter().all(|mark| (mark.index, mark.line, mark.column) == (77, 77, 77))
 }
 
+/// Whether an answer is all zeros.
+fn is_zero(out: &bogzhami_answer) -> bool {
+    let marks = [out.problem_mark, out.context_mark];
+    counted(out) == (0, 0, 0)
+        && (out.problem_value, out.problem_offset) == (0, 0)
+        && (out.problem_len, out.context_len) == (0, 0)
+        && marks
+            .iter()
+            .all(|mark| (mark.index, mark.line, mark.column) == (0, 0, 0))
+}
+
+/// The status of a call with a setting and a limit, whether the answer is all zeros, and whether the rooms are as they
+/// were.
+fn refused(rt: HostRuntime, setting: u32, limit: u32) -> (u32, bool, bool) {
+    let mut tokens = [NO_TOKEN; 1];
+    let mut texts = [77u8; 1];
+    let mut out = NO_ANSWER;
+    let status = bogzhami_scan_all(
+        rt.alloc(),
+        b"a",
+        setting,
+        limit,
+        &mut tokens,
+        &mut texts,
+        &mut out,
+    );
+    let same = is_untouched(&tokens[0]) && texts[0] == 77;
+    (status, is_zero(&out), same)
+}
+
 /// A setting or a limit that is wrong touches nothing but the answer, which is all zeros.
 #[test]
 fn wrong_settings_and_limits(rt: HostRuntime) -> Result<(), Fail> {
     for (setting, limit) in [(4, KEY_LIMIT), (u32::MAX, KEY_LIMIT), (0, 0), (0, 65_537)] {
-        let mut tokens = [NO_TOKEN; 1];
-        let mut texts = [77u8; 1];
-        let mut out = NO_ANSWER;
-        let status = bogzhami_scan_all(
-            rt.alloc(),
-            b"a",
-            setting,
-            limit,
-            &mut tokens,
-            &mut texts,
-            &mut out,
-        );
-        assert_eq!(rt; status, 2, "{setting} {limit}");
         assert_eq!(rt;
-            (out.token_count, out.text_len, out.error),
-            (0, 0, 0),
+            refused(rt, setting, limit),
+            (2, true, true),
             "{setting} {limit}"
         );
-        assert_eq!(rt;
-            (out.problem_value, out.problem_offset),
-            (0, 0),
-            "{setting} {limit}"
-        );
-        assert_eq!(rt;
-            (out.problem_len, out.context_len),
-            (0, 0),
-            "{setting} {limit}"
-        );
-        let [token] = tokens;
-        assert!(rt; is_untouched(&token), "{setting} {limit}");
-        assert_eq!(rt; texts, [77], "{setting} {limit}");
     }
     Ok(())
+}
+
+/// The status of a call with a limit, how many tokens there are, the type of the first, and the first byte of their
+/// texts.
+fn limited(rt: HostRuntime, limit: u32) -> (u32, u64, u32, u8) {
+    let mut tokens = [NO_TOKEN; 1];
+    let mut texts = [77u8; 1];
+    let mut out = NO_ANSWER;
+    let status = bogzhami_scan_all(
+        rt.alloc(),
+        b"a",
+        0,
+        limit,
+        &mut tokens,
+        &mut texts,
+        &mut out,
+    );
+    (status, out.token_count, tokens[0].token_type, texts[0])
 }
 
 /// The greatest and the least limit are right.
 #[test]
 fn ends_of_the_limits(rt: HostRuntime) -> Result<(), Fail> {
     for limit in [1, 65_536] {
-        let mut tokens = [NO_TOKEN; 1];
-        let mut texts = [77u8; 1];
-        let mut out = NO_ANSWER;
-        let status = bogzhami_scan_all(
-            rt.alloc(),
-            b"a",
-            0,
-            limit,
-            &mut tokens,
-            &mut texts,
-            &mut out,
-        );
-        assert_eq!(rt; (status, out.token_count), (0, 3), "{limit}");
-        let [token] = tokens;
-        assert_eq!(rt; token.token_type, 1, "{limit}");
-        assert_eq!(rt; texts, *b"a", "{limit}");
+        assert_eq!(rt; limited(rt, limit), (0, 3, 1, b'a'), "{limit}");
     }
     Ok(())
 }
