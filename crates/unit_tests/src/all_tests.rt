@@ -8,17 +8,27 @@ use yaml_text::{yaml_encoding_t, yaml_error_type_t, yaml_token_t, yaml_token_typ
 
 const ANY: yaml_encoding_t = yaml_encoding_t::YAML_ANY_ENCODING;
 
+/// How many tokens one call gives, and whether there is no fault.
+fn all_of(alloc: Global, input: &[u8]) -> Result<(usize, bool), AllocError> {
+    let (tokens, fault) = yaml_scan_all(alloc, input, ANY)?;
+    Ok((tokens.len(), fault.is_none()))
+}
+
+/// How many tokens one call gives with a key limit of one byte, and the kind of the fault, if there is one.
+fn all_with_a_limit(
+    alloc: Global,
+    input: &[u8],
+) -> Result<(usize, Option<yaml_error_type_t>), AllocError> {
+    let (tokens, fault) = yaml_scan_all_limit(alloc, input, ANY, 1)?;
+    Ok((tokens.len(), fault.map(|fault| fault.error)))
+}
+
 #[test]
 fn all_tokens_and_the_fault(rt: HostRuntime) -> Result<(), Fail> {
-    let (tokens, fault) = yaml_scan_all(rt.alloc(), b"a: 1", ANY)?;
-    assert_eq!(rt; tokens.len(), 8);
-    assert!(rt; fault.is_none());
-    let (tokens, fault) = yaml_scan_all_limit(rt.alloc(), b"ab: 1", ANY, 1)?;
-    assert_eq!(rt; tokens.len(), 2);
-    match fault {
-        Some(fault) => assert_eq!(rt; fault.error, yaml_error_type_t::YAML_SCANNER_ERROR),
-        None => return Err("no fault".into()),
-    }
+    assert_eq!(rt; all_of(rt.alloc(), b"a: 1")?, (8, true));
+    let (count, error) = all_with_a_limit(rt.alloc(), b"ab: 1")?;
+    assert_eq!(rt; count, 2);
+    assert_eq!(rt; error, Some(yaml_error_type_t::YAML_SCANNER_ERROR));
     Ok(())
 }
 
@@ -34,11 +44,19 @@ fn answers_to(
     Ok(answers)
 }
 
+/// A letter for a token: `e` for the empty one.
+fn letter_of(token: &yaml_token_t) -> char {
+    if *token == yaml_token_t::empty() {
+        'e'
+    } else {
+        't'
+    }
+}
+
 /// A letter for an answer.
 fn letter(answer: &yaml_answer_t) -> char {
     match answer {
-        yaml_answer_t::TOKEN(token) if *token == yaml_token_t::empty() => 'e',
-        yaml_answer_t::TOKEN(_) => 't',
+        yaml_answer_t::TOKEN(token) => letter_of(token),
         yaml_answer_t::PEEKED(_, _, _) => 'p',
         yaml_answer_t::SKIPPED => 'k',
         yaml_answer_t::NOTHING => 'n',
@@ -46,21 +64,30 @@ fn letter(answer: &yaml_answer_t) -> char {
     }
 }
 
+/// The letters of some answers.
+fn letters(alloc: Global, answers: &[yaml_answer_t]) -> Result<String, AllocError> {
+    let mut shown = String::new(alloc);
+    for answer in answers {
+        shown.push(letter(answer))?;
+    }
+    Ok(shown)
+}
+
+/// The type of the token that the first answer shows, and where it ends. There is none if that answer shows no token.
+fn first_peeked(answers: &[yaml_answer_t]) -> Option<(yaml_token_type_t, u64)> {
+    match answers.first() {
+        Some(yaml_answer_t::PEEKED(kind, _, end)) => Some((*kind, end.index)),
+        _ => None,
+    }
+}
+
 #[test]
 fn calls_and_their_answers(rt: HostRuntime) -> Result<(), Fail> {
     let (s, p, k) = (yaml_call_t::SCAN, yaml_call_t::PEEK, yaml_call_t::SKIP);
     let answers = answers_to(rt.alloc(), b"[a]", &[p, p, k, s, k, p, s, s, s, s])?;
-    let mut shown = String::new(rt.alloc());
-    for answer in &answers {
-        shown.push(letter(answer))?;
-    }
+    let shown = letters(rt.alloc(), &answers)?;
     assert_eq!(rt; shown.as_str(), "ppktnpttte");
-    match answers.first() {
-        Some(yaml_answer_t::PEEKED(kind, _, end)) => {
-            assert_eq!(rt; *kind, yaml_token_type_t::YAML_STREAM_START_TOKEN);
-            assert_eq!(rt; end.index, 0);
-        }
-        _ => return Err("no token was peeked".into()),
-    }
+    let start = yaml_token_type_t::YAML_STREAM_START_TOKEN;
+    assert_eq!(rt; first_peeked(&answers), Some((start, 0)));
     Ok(())
 }
