@@ -25,10 +25,10 @@ fn all_with_a_limit(
 
 #[test]
 fn all_tokens_and_the_fault(rt: HostRuntime) -> Result<(), Fail> {
-    assert_eq!(rt; all_of(rt.alloc(), b"a: 1")?, (8, true));
-    let (count, error) = all_with_a_limit(rt.alloc(), b"ab: 1")?;
-    assert_eq!(rt; count, 2);
-    assert_eq!(rt; error, Some(yaml_error_type_t::YAML_SCANNER_ERROR));
+    let error = yaml_error_type_t::YAML_SCANNER_ERROR;
+    let all = all_of(rt.alloc(), b"a: 1")?;
+    let limited = all_with_a_limit(rt.alloc(), b"ab: 1")?;
+    assert_eq!(rt; (all, limited), ((8, true), (2, Some(error))));
     Ok(())
 }
 
@@ -81,13 +81,26 @@ fn first_peeked(answers: &[yaml_answer_t]) -> Option<(yaml_token_type_t, u64)> {
     }
 }
 
+/// The letters of the answers to a list of calls on a new parser, and what the first one shows.
+fn letters_and_first(
+    alloc: Global,
+    input: &[u8],
+    calls: &[yaml_call_t],
+) -> Result<(String, Option<(yaml_token_type_t, u64)>), AllocError> {
+    let answers = answers_to(alloc, input, calls)?;
+    let shown = letters(alloc, &answers)?;
+    Ok((shown, first_peeked(&answers)))
+}
+
 #[test]
 fn calls_and_their_answers(rt: HostRuntime) -> Result<(), Fail> {
-    let (s, p, k) = (yaml_call_t::SCAN, yaml_call_t::PEEK, yaml_call_t::SKIP);
-    let answers = answers_to(rt.alloc(), b"[a]", &[p, p, k, s, k, p, s, s, s, s])?;
-    let shown = letters(rt.alloc(), &answers)?;
-    assert_eq!(rt; shown.as_str(), "ppktnpttte");
+    const S: yaml_call_t = yaml_call_t::SCAN;
+    const P: yaml_call_t = yaml_call_t::PEEK;
+    const K: yaml_call_t = yaml_call_t::SKIP;
+    const CALLS: [yaml_call_t; 10] = [P, P, K, S, K, P, S, S, S, S];
     let start = yaml_token_type_t::YAML_STREAM_START_TOKEN;
-    assert_eq!(rt; first_peeked(&answers), Some((start, 0)));
+    let (shown, first) = letters_and_first(rt.alloc(), b"[a]", &CALLS)?;
+    assert_eq!(rt; first, Some((start, 0)));
+    assert_eq!(rt; shown.as_str(), "ppktnpttte");
     Ok(())
 }

@@ -1,6 +1,7 @@
 //! Deep texts in every way in which tokens are taken: all of them come, and no memory is wanted at some size. Those of
 //! the worked rows are longer, and are taken by `tests/deep.py`.
 use std::alloc::{AllocError, Global};
+use std::process::Abort;
 use std::test::Fail;
 use yaml_scan::{
     yaml_answer_t, yaml_call_t, yaml_parser_has_token, yaml_parser_peek, yaml_parser_scan,
@@ -82,23 +83,32 @@ fn at_once(alloc: Global, part: &str) -> Result<(usize, Option<u64>, bool), Allo
     Ok((count, end, fault.is_none()))
 }
 
-#[test]
-fn openers_at_once(rt: HostRuntime) -> Result<(), Fail> {
-    assert_eq!(rt; at_once(rt.alloc(), "[")?, (TOKENS, Some(45_000), true));
+/// Asserts how many tokens one call gives of a part that is repeated, and where the last one ends.
+fn expect_at_once(
+    rt: &(impl Abort + AllocGlobal),
+    part: &str,
+    count: usize,
+    end: u64,
+) -> Result<(), Fail> {
+    let told = at_once(rt.alloc(), part)?;
+    assert_eq!(rt; told, (count, Some(end), true));
     Ok(())
 }
 
 #[test]
+fn openers_at_once(rt: HostRuntime) -> Result<(), Fail> {
+    expect_at_once(&rt, "[", TOKENS, 45_000)
+}
+
+#[test]
 fn closers_at_once(rt: HostRuntime) -> Result<(), Fail> {
-    assert_eq!(rt; at_once(rt.alloc(), "]")?, (TOKENS, Some(45_000), true));
-    Ok(())
+    expect_at_once(&rt, "]", TOKENS, 45_000)
 }
 
 /// Each `-` begins a block, which ends at the end.
 #[test]
 fn sequences_at_once(rt: HostRuntime) -> Result<(), Fail> {
-    assert_eq!(rt; at_once(rt.alloc(), "- ")?, (135_002, Some(90_000), true));
-    Ok(())
+    expect_at_once(&rt, "- ", 135_002, 90_000)
 }
 
 /// Takes the next token. Returns whether it is the stream end.
@@ -122,7 +132,7 @@ fn skips_the_end(parser: &mut yaml_parser_t) -> Result<bool, Fail> {
 }
 
 /// How many scans it takes to the stream end.
-pub(crate) fn scans_to_the_end(parser: &mut yaml_parser_t) -> Result<usize, Fail> {
+fn scans_to_the_end(parser: &mut yaml_parser_t) -> Result<usize, Fail> {
     for n in 1..100_000 {
         if takes_the_end(parser)? {
             return Ok(n);
@@ -131,16 +141,17 @@ pub(crate) fn scans_to_the_end(parser: &mut yaml_parser_t) -> Result<usize, Fail
     Err("no stream end".into())
 }
 
-/// How many scans it takes to the stream end of a deep text.
-fn scanned(alloc: Global) -> Result<usize, Fail> {
-    let input = repeated(alloc, "[")?;
-    let mut parser = yaml_parser_t::new(alloc, input.as_bytes(), ANY);
+/// How many tokens an input has, taken by scans.
+pub(crate) fn count_of(alloc: Global, input: &[u8]) -> Result<usize, Fail> {
+    let mut parser = yaml_parser_t::new(alloc, input, ANY);
     scans_to_the_end(&mut parser)
 }
 
 #[test]
 fn scans(rt: HostRuntime) -> Result<(), Fail> {
-    assert_eq!(rt; scanned(rt.alloc())?, TOKENS);
+    let input = repeated(rt.alloc(), "[")?;
+    let count = count_of(rt.alloc(), input.as_bytes())?;
+    assert_eq!(rt; count, TOKENS);
     Ok(())
 }
 
@@ -154,16 +165,17 @@ fn skips_to_the_end(parser: &mut yaml_parser_t) -> Result<usize, Fail> {
     Err("no stream end".into())
 }
 
-/// How many peeks, each with a skip, it takes to the stream end of a deep text.
-fn skipped(alloc: Global) -> Result<usize, Fail> {
-    let input = repeated(alloc, "[")?;
-    let mut parser = yaml_parser_t::new(alloc, input.as_bytes(), ANY);
+/// How many tokens an input has, taken by peeks and skips.
+fn skipped(alloc: Global, input: &[u8]) -> Result<usize, Fail> {
+    let mut parser = yaml_parser_t::new(alloc, input, ANY);
     skips_to_the_end(&mut parser)
 }
 
 #[test]
 fn peeks_and_skips(rt: HostRuntime) -> Result<(), Fail> {
-    assert_eq!(rt; skipped(rt.alloc())?, TOKENS);
+    let input = repeated(rt.alloc(), "[")?;
+    let count = skipped(rt.alloc(), input.as_bytes())?;
+    assert_eq!(rt; count, TOKENS);
     Ok(())
 }
 
@@ -270,13 +282,22 @@ fn returned_to_the_end(parser: &mut yaml_parser_t, count: &mut count_t) -> Resul
     Err("no stream end".into())
 }
 
-/// How many tokens a sink of a room was given, and how many were returned, up to the stream end.
+/// How many tokens a sink was given, and how many were returned, up to the stream end.
+fn given_and_returned(
+    alloc: Global,
+    input: &[u8],
+    count: &mut count_t,
+) -> Result<(usize, usize), Fail> {
+    let mut parser = yaml_parser_t::new(alloc, input, ANY);
+    let others = returned_to_the_end(&mut parser, count)?;
+    Ok((count.tokens, others))
+}
+
+/// How many tokens of a deep text a sink of a room was given, and how many were returned.
 fn batched(alloc: Global, room: u128) -> Result<(usize, usize), Fail> {
     let input = repeated(alloc, "[")?;
-    let mut parser = yaml_parser_t::new(alloc, input.as_bytes(), ANY);
     let mut count = count_t { room, tokens: 0 };
-    let others = returned_to_the_end(&mut parser, &mut count)?;
-    Ok((count.tokens, others))
+    given_and_returned(alloc, input.as_bytes(), &mut count)
 }
 
 /// All but the stream end go to the sink.

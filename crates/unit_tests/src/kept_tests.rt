@@ -3,7 +3,7 @@ ghost use Rattle.std.specs.Prelude.{◌≡◌};
 ghost use Rattle.yaml_scan.specs.Parser.{Parser};
 ghost use Rattle.yaml_scan.specs.inside.Kept.{IsKept};
 
-use crate::deep_tests::scans_to_the_end;
+use crate::deep_tests::count_of;
 use std::alloc::{AllocError, Global};
 use std::process::Abort;
 use std::test::Fail;
@@ -135,12 +135,6 @@ impl<'a> held_t<'a> {
     }
 }
 
-/// How many tokens an input has.
-fn count_of(alloc: Global, input: &[u8]) -> Result<usize, Fail> {
-    let mut parser = yaml_parser_t::new(alloc, input, ANY);
-    scans_to_the_end(&mut parser)
-}
-
 /// How many bytes the next token needs if it was shown, for a sink that had room for so many.
 fn need_of(kept: &yaml_kept_parser_t, texts: u128) -> u128 {
     match kept.peeked() {
@@ -177,13 +171,14 @@ fn all_got(held: &held_t, shelf: &shelf_t) -> Result<usize, Fail> {
     Ok(shelf.tokens)
 }
 
-/// Makes 300 calls, each with room for so many tokens, and bytes, or as many bytes as the next token needs.
+/// Makes 300 calls, each with room for so many tokens, and bytes, or as many bytes as the next token needs. Returns how
+/// many tokens the sink got if all are right.
 fn goes_to_the_end(
     held: &mut held_t,
     shelf: &mut shelf_t,
     room: u128,
     texts: u128,
-) -> Result<(), Fail>
+) -> Result<usize, Fail>
     requires { (p : Parser) × (p.input ≡ held.old.input.now) × IsKept p held.old.kept }
 {
     'calls: for _ in 0..300 {
@@ -191,16 +186,14 @@ fn goes_to_the_end(
             return Err("a fault, or a stop at a wrong place".into());
         }
     }
-    Ok(())
+    all_got(held, shelf)
 }
 
-/// Gives all tokens of an input to a sink, in calls that have room for so many tokens, and bytes, or as many bytes as
-/// the next token needs. Returns how many it got if all are right.
+/// How many tokens a new sink gets in `goes_to_the_end`, of a new parser.
 fn given(alloc: Global, input: &[u8], room: u128, texts: u128) -> Result<usize, Fail> {
     let mut held = held_t::new(alloc, input);
     let mut shelf = shelf_t::new(alloc, input);
-    goes_to_the_end(&mut held, &mut shelf, room, texts)?;
-    all_got(&held, &shelf)
+    goes_to_the_end(&mut held, &mut shelf, room, texts)
 }
 
 /// Asserts that a sink gets so many tokens in calls that have room for so many.
@@ -235,25 +228,39 @@ fn tokens_go_on_while_there_is_room(rt: HostRuntime) -> Result<(), Fail> {
     Ok(())
 }
 
-/// Gives tokens to a sink that has room for so many. Returns whether a fault is told, whether the session is over, and
-/// whether it has a fault.
-fn told(held: &mut held_t, shelf: &mut shelf_t, room: u128) -> (bool, bool, bool)
-    requires { (p : Parser) × (p.input ≡ held.old.input.now) × IsKept p held.old.kept }
-    ensures { (p : Parser) × (p.input ≡ held.new.input.now) × IsKept p held.new.kept }
-{
-    shelf.room = room;
-    shelf.texts = 100;
-    let faulty = held.scan_to(shelf);
-    (faulty, held.kept.is_over(), held.kept.fault().is_some())
+/// A call that gives tokens to a sink with room for so many, a peek, or no call.
+#[derive(Clone, Copy, Debug)]
+enum call_t {
+    GIVE(u128),
+    PEEK,
+    NONE,
 }
 
-/// Shows the next token. Returns whether a fault is told, whether the session is over, whether it has a fault, and
-/// whether a token is shown.
-fn looked(held: &mut held_t) -> (bool, bool, bool, bool)
+/// Whether a fault is told, and then whether the session is over, whether it has a fault, and whether a token is shown.
+type told_t = (bool, bool, bool, bool);
+
+const GOES_ON: told_t = (false, false, false, false);
+
+const ENDED: told_t = (false, true, false, false);
+
+const FAULTY: told_t = (true, true, true, false);
+
+const FAULTY_BEFORE: told_t = (false, true, true, false);
+
+/// Makes a call. Returns what is told.
+fn told(held: &mut held_t, shelf: &mut shelf_t, call: call_t) -> told_t
     requires { (p : Parser) × (p.input ≡ held.old.input.now) × IsKept p held.old.kept }
     ensures { (p : Parser) × (p.input ≡ held.new.input.now) × IsKept p held.new.kept }
 {
-    let faulty = held.peek();
+    let faulty = match call {
+        call_t::GIVE(room) => {
+            shelf.room = room;
+            shelf.texts = 100;
+            held.scan_to(shelf)
+        }
+        call_t::PEEK => held.peek(),
+        call_t::NONE => false,
+    };
     let kept = &held.kept;
     (
         faulty,
@@ -263,20 +270,47 @@ fn looked(held: &mut held_t) -> (bool, bool, bool, bool)
     )
 }
 
-/// Gives tokens of a new parser to a sink without room. Returns what is told, how many tokens the sink got, and whether
-/// a token is shown.
-fn without_room(alloc: Global, input: &[u8]) -> ((bool, bool, bool), usize, bool) {
-    let mut held = held_t::new(alloc, input);
-    let mut shelf = shelf_t::new(alloc, input);
-    let told = told(&mut held, &mut shelf, 0);
-    (told, shelf.tokens, held.kept.peeked().is_some())
+/// Makes the call of a row. Asserts what is told, and how many tokens the sink has then.
+fn expect_told(
+    rt: &impl Abort,
+    held: &mut held_t,
+    shelf: &mut shelf_t,
+    row: &(call_t, told_t, usize),
+)
+    requires { (p : Parser) × (p.input ≡ held.old.input.now) × IsKept p held.old.kept }
+    ensures { (p : Parser) × (p.input ≡ held.new.input.now) × IsKept p held.new.kept }
+{
+    let (call, want, tokens) = *row;
+    let told = told(held, shelf, call);
+    assert_eq!(rt; (told, shelf.tokens), (want, tokens), "{call:?}");
+}
+
+/// Makes the calls of the rows, one after the other.
+fn expect_each_told(
+    rt: &impl Abort,
+    held: &mut held_t,
+    shelf: &mut shelf_t,
+    rows: &[(call_t, told_t, usize)],
+)
+    requires { (p : Parser) × (p.input ≡ held.old.input.now) × IsKept p held.old.kept }
+{
+    'calls: for row in rows {
+        expect_told(rt, held, shelf, row);
+    }
+}
+
+/// Makes the calls of the rows on a new parser of an input.
+fn expect_session(rt: &(impl Abort + AllocGlobal), input: &[u8], rows: &[(call_t, told_t, usize)]) {
+    let mut held = held_t::new(rt.alloc(), input);
+    let mut shelf = shelf_t::new(rt.alloc(), input);
+    expect_each_told(rt, &mut held, &mut shelf, rows);
 }
 
 /// A sink without room gets no token, and none is shown to it.
 #[test]
 fn no_token_goes_where_there_is_no_room(rt: HostRuntime) -> Result<(), Fail> {
-    let told = without_room(rt.alloc(), b"a");
-    assert_eq!(rt; told, ((false, false, false), 0, false));
+    const ROWS: [(call_t, told_t, usize); 1] = [(call_t::GIVE(0), GOES_ON, 0)];
+    expect_session(&rt, b"a", &ROWS);
     Ok(())
 }
 
@@ -306,13 +340,14 @@ fn gives_the_next(held: &mut held_t, right: &mut yaml_parser_t, shelf: &mut shel
     yaml_parser_scan(right).is_ok() && !faulty
 }
 
-/// Gives so many tokens to a sink, one by one, each after it was shown twice.
+/// Gives so many tokens to a sink, one by one, each after it was shown twice. Returns how many it got if all are right
+/// and none is left.
 fn peek_and_give(
     held: &mut held_t,
     right: &mut yaml_parser_t,
     shelf: &mut shelf_t,
     count: usize,
-) -> Result<(), Fail>
+) -> Result<usize, Fail>
     requires { (p : Parser) × (p.input ≡ held.old.input.now) × IsKept p held.old.kept }
 {
     'tokens: for _ in 0..count {
@@ -323,17 +358,27 @@ fn peek_and_give(
             return Err("another token is shown, or a fault comes".into());
         }
     }
-    Ok(())
+    all_got(held, shelf)
 }
 
-/// Gives so many tokens of an input to a sink, one by one, each after it was shown twice. Returns how many it got if
-/// all are right and none is left.
+/// How many tokens a sink gets in `peek_and_give`, with a new parser beside the kept one.
+fn peek_beside(
+    alloc: Global,
+    held: &mut held_t,
+    shelf: &mut shelf_t,
+    count: usize,
+) -> Result<usize, Fail>
+    requires { (p : Parser) × (p.input ≡ held.old.input.now) × IsKept p held.old.kept }
+{
+    let mut right = yaml_parser_t::new(alloc, held.input, ANY);
+    peek_and_give(held, &mut right, shelf, count)
+}
+
+/// How many tokens a new sink gets in `peek_and_give`, of a new parser.
 fn peeked_and_given(alloc: Global, input: &[u8], count: usize) -> Result<usize, Fail> {
     let mut held = held_t::new(alloc, input);
-    let mut right = yaml_parser_t::new(alloc, input, ANY);
     let mut shelf = shelf_t::new(alloc, input);
-    peek_and_give(&mut held, &mut right, &mut shelf, count)?;
-    all_got(&held, &shelf)
+    peek_beside(alloc, &mut held, &mut shelf, count)
 }
 
 /// Asserts that all tokens of an input are shown, and given one by one.
@@ -353,34 +398,15 @@ fn peeked_token_is_the_next(rt: HostRuntime) -> Result<(), Fail> {
     Ok(())
 }
 
-/// Gives tokens to a sink that has room for ten. Returns what is told, and how many tokens the sink has.
-fn ten_told(held: &mut held_t, shelf: &mut shelf_t) -> ((bool, bool, bool), usize)
-    requires { (p : Parser) × (p.input ≡ held.old.input.now) × IsKept p held.old.kept }
-    ensures { (p : Parser) × (p.input ≡ held.new.input.now) × IsKept p held.new.kept }
-{
-    let told = told(held, shelf, 10);
-    (told, shelf.tokens)
-}
-
-/// What two calls with room for ten tokens tell, with how many tokens the sink has after each.
-type twice_told_t = (((bool, bool, bool), usize), ((bool, bool, bool), usize));
-
-/// What two calls tell of an input, and then a peek.
-fn past_the_end(alloc: Global, input: &[u8]) -> (twice_told_t, (bool, bool, bool, bool)) {
-    let mut held = held_t::new(alloc, input);
-    let mut shelf = shelf_t::new(alloc, input);
-    let first = ten_told(&mut held, &mut shelf);
-    let second = ten_told(&mut held, &mut shelf);
-    ((first, second), looked(&mut held))
-}
-
 /// After the end a sink gets nothing, and nothing is shown.
 #[test]
 fn nothing_comes_after_the_end(rt: HostRuntime) -> Result<(), Fail> {
-    let (told, shown) = past_the_end(rt.alloc(), b"a");
-    let want = ((false, true, false), 3);
-    assert_eq!(rt; told, (want, want));
-    assert_eq!(rt; shown, (false, true, false, false));
+    const ROWS: [(call_t, told_t, usize); 3] = [
+        (call_t::GIVE(10), ENDED, 3),
+        (call_t::GIVE(10), ENDED, 3),
+        (call_t::PEEK, ENDED, 3),
+    ];
+    expect_session(&rt, b"a", &ROWS);
     Ok(())
 }
 
@@ -392,7 +418,7 @@ fn tells_at(held: &mut held_t, shelf: &mut shelf_t, room: u128, telling: usize) 
     let mut right = true;
     'calls: for call in 1..10 {
         let ended = call >= telling;
-        right &= told(held, shelf, room) == (call == telling, ended, ended);
+        right &= told(held, shelf, call_t::GIVE(room)) == (call == telling, ended, ended, false);
     }
     right
 }
@@ -422,25 +448,15 @@ fn fault_comes_after_its_tokens(rt: HostRuntime) -> Result<(), Fail> {
     Ok(())
 }
 
-/// Whether a new parser has a fault, and what two peeks tell then.
-fn looked_twice(
-    alloc: Global,
-    input: &[u8],
-) -> (bool, (bool, bool, bool, bool), (bool, bool, bool, bool)) {
-    let mut held = held_t::new(alloc, input);
-    let faulty = held.kept.fault().is_some();
-    let first = looked(&mut held);
-    let second = looked(&mut held);
-    (faulty, first, second)
-}
-
 /// A fault is told to a peek once, and no token is shown then.
 #[test]
 fn peek_finds_the_fault(rt: HostRuntime) -> Result<(), Fail> {
-    let (faulty, first, second) = looked_twice(rt.alloc(), b"\xFF");
-    assert!(rt; !faulty);
-    assert_eq!(rt; first, (true, true, true, false));
-    assert_eq!(rt; second, (false, true, true, false));
+    const ROWS: [(call_t, told_t, usize); 3] = [
+        (call_t::NONE, GOES_ON, 0),
+        (call_t::PEEK, FAULTY, 0),
+        (call_t::PEEK, FAULTY_BEFORE, 0),
+    ];
+    expect_session(&rt, b"\xFF", &ROWS);
     Ok(())
 }
 

@@ -207,8 +207,8 @@ fn expect_met(
     call: u8,
     want: met_t,
 ) -> Result<(), Fail> {
-    let is = met(parser, call)?;
-    assert_eq!(rt; is, want);
+    let found = met(parser, call)?;
+    assert_eq!(rt; found, want);
     Ok(())
 }
 
