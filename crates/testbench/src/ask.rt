@@ -84,46 +84,53 @@ fn is_within(text: &yaml_text_t, level: Option<u64>) -> bool
     }
 }
 
-/// The answer to the question of these words about the text.
-fn ask(alloc: Global, words: &[&str], text: &yaml_text_t) -> Result<Option<String>, AllocError> {
-    match words {
-        ["gap", in_flow, allowed, index, _] => {
-            let (Some(in_flow), Some(allowed)) = (flag_of(in_flow), flag_of(allowed)) else {
-                return Ok(None);
-            };
-            match mark_of(text, index) {
-                Some(at) => Ok(Some(ask_gap(alloc, text, at, around_t { in_flow, allowed })?)),
-                None => Ok(None),
-            }
-        }
-        ["kind", in_flow, index, _] => {
-            let (Some(in_flow), Some(at)) = (flag_of(in_flow), mark_of(text, index)) else {
-                return Ok(None);
-            };
-            Ok(Some(ask_kind(alloc, text, at, in_flow)?))
-        }
-        ["lex", depth, level, index, _] => {
-            let (Ok(depth), Some(level)) = (depth.parse(), level_of(level)) else {
-                return Ok(None);
-            };
-            if !is_within(text, level) {
-                return Ok(None);
-            }
-            match mark_of(text, index) {
-                Some(at) => Ok(Some(ask_lexeme(alloc, text, at, yaml_context_t { depth, level })?)),
-                None => Ok(None),
-            }
-        }
-        _ => Ok(None),
-    }
-}
-
 fn mark_of(text: &yaml_text_t, index: &str) -> Option<yaml_mark_t>
     ensures { IfSome result (λ mark. (n : ℕ) × IsMarkOf text.now.chars mark n) }
 {
     match index.parse() {
         Ok(index) => mark_at(text, index),
         Err(_) => None,
+    }
+}
+
+/// What a gap depends on besides the text, if the words are two flags.
+fn around_of(in_flow: &str, allowed: &str) -> Option<around_t> {
+    match (flag_of(in_flow), flag_of(allowed)) {
+        (Some(in_flow), Some(allowed)) => Some(around_t { in_flow, allowed }),
+        _ => None,
+    }
+}
+
+/// The flow depth and the level of two words, if the level is within the text.
+fn context_of(text: &yaml_text_t, depth: &str, level: &str) -> Option<yaml_context_t>
+    ensures { IfSome result (λ context. IfSome context.level (λ l. l ≤ length (utf8 text.now.chars))) }
+{
+    match (depth.parse(), level_of(level)) {
+        (Ok(depth), Some(level)) if is_within(text, level) => Some(yaml_context_t { depth, level }),
+        _ => None,
+    }
+}
+
+/// The answer to the question of these words about the text.
+fn ask(alloc: Global, words: &[&str], text: &yaml_text_t) -> Result<Option<String>, AllocError> {
+    match words {
+        ["gap", in_flow, allowed, index, _] => {
+            match (around_of(in_flow, allowed), mark_of(text, index)) {
+                (Some(around), Some(at)) => Ok(Some(ask_gap(alloc, text, at, around)?)),
+                _ => Ok(None),
+            }
+        }
+        ["kind", in_flow, index, _] => match (flag_of(in_flow), mark_of(text, index)) {
+            (Some(in_flow), Some(at)) => Ok(Some(ask_kind(alloc, text, at, in_flow)?)),
+            _ => Ok(None),
+        },
+        ["lex", depth, level, index, _] => {
+            match (context_of(text, depth, level), mark_of(text, index)) {
+                (Some(context), Some(at)) => Ok(Some(ask_lexeme(alloc, text, at, context)?)),
+                _ => Ok(None),
+            }
+        }
+        _ => Ok(None),
     }
 }
 

@@ -182,6 +182,30 @@ fn by_batches(parser: &mut yaml_parser_t, room: u128) -> count_t {
     tally.count
 }
 
+/// Counts the tokens of an input in the way of a word.
+///
+/// # Errors
+///
+/// `InvalidInput` if the word is no way, or the error of a request for memory that failed outside of the scanner.
+fn counted(alloc: Global, input: &[u8], way: &str, limit: u32) -> io::Result<count_t>
+    requires least { 1 ≤ limit }
+    requires most { limit ≤ MOST_KEY_LIMIT }
+{
+    let any = yaml_encoding_t::YAML_ANY_ENCODING;
+    if way == "sink" {
+        return Ok(by_sink(alloc, input, any, limit)?);
+    }
+    let mut parser = yaml_parser_t::with_key_limit(alloc, input, any, limit);
+    match way {
+        "scans" => Ok(by_scans(&mut parser)),
+        "skips" => Ok(by_skips(&mut parser)),
+        "lists" => Ok(by_lists(alloc, &mut parser)?),
+        "batches" => Ok(by_batches(&mut parser, MANY as u128)),
+        "returned" => Ok(by_batches(&mut parser, 0)),
+        _ => Err(wrong_words()),
+    }
+}
+
 /// Counts the tokens of an input in the way of a word: `scans`, `skips`, `lists`, `sink`, `batches` or `returned`.
 ///
 /// Returns a line: how many there are up to the stream end or the fault, and the kind of the fault, or `-` for none.
@@ -193,17 +217,7 @@ pub fn count(alloc: Global, input: &[u8], way: &str, limit: u32) -> io::Result<S
     requires least { 1 ≤ limit }
     requires most { limit ≤ MOST_KEY_LIMIT }
 {
-    let any = yaml_encoding_t::YAML_ANY_ENCODING;
-    let mut parser = yaml_parser_t::with_key_limit(alloc, input, any, limit);
-    let count = match way {
-        "scans" => by_scans(&mut parser),
-        "skips" => by_skips(&mut parser),
-        "lists" => by_lists(alloc, &mut parser)?,
-        "sink" => by_sink(alloc, input, any, limit)?,
-        "batches" => by_batches(&mut parser, MANY as u128),
-        "returned" => by_batches(&mut parser, 0),
-        _ => return Err(wrong_words()),
-    };
+    let count = counted(alloc, input, way, limit)?;
     let tokens = count.tokens;
     Ok(match count.fault {
         Some(fault) => {

@@ -7,6 +7,14 @@ use std::io;
 use std::io::{BufRead, BufReader, BufWriter, Write};
 use yaml_scan::yaml_parser_t;
 
+/// Makes the calls of a word on a parser, and writes the answers and an empty line.
+fn answer_calls(out: &mut impl Write, parser: &mut yaml_parser_t, word: &str) -> io::Result<()> {
+    for letter in word.bytes() {
+        make_call(out, parser, call_of(letter))?;
+    }
+    writeln!(out)
+}
+
 /// Makes the calls of a line `ENC LIMIT WORD INPUT`, and writes the answers and an empty line.
 fn answer_row(alloc: Global, out: &mut impl Write, line: &str) -> io::Result<()> {
     let words: Vec<&str> = line.split(' ').collect(alloc)?;
@@ -17,10 +25,7 @@ fn answer_row(alloc: Global, out: &mut impl Write, line: &str) -> io::Result<()>
     let limit = limit_of(limit).ok_or(wrong_words())?;
     let input = bytes_of(alloc, input)?.ok_or(wrong_words())?;
     let mut parser = yaml_parser_t::with_key_limit(alloc, &input, setting, limit);
-    for letter in word.bytes() {
-        make_call(out, &mut parser, call_of(letter))?;
-    }
-    writeln!(out)
+    answer_calls(out, &mut parser, word)
 }
 
 /// Makes the calls of each line of the input, one by one, on a parser of its own.

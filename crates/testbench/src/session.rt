@@ -12,7 +12,7 @@ use std::io;
 use std::io::{Read, Write};
 use yaml_scan::{
     unnamed_yaml_token_t_data, yaml_answer_t, yaml_call_t, yaml_context_t, yaml_decode,
-    yaml_encoding_t, yaml_fault_t, yaml_lexeme_at, yaml_lexeme_kind, yaml_mark_t,
+    yaml_encoding_t, yaml_fault_t, yaml_lexeme_at, yaml_lexeme_kind, yaml_lexeme_t, yaml_mark_t,
     yaml_parser_fault, yaml_parser_has_token, yaml_parser_mark, yaml_parser_peek,
     yaml_parser_queued, yaml_parser_scan, yaml_parser_skip, yaml_parser_t, yaml_run,
     yaml_scan_all_limit, yaml_text_t, yaml_token_t,
@@ -165,6 +165,22 @@ pub fn read_input(reader: &mut impl Read, room: &mut [u8]) -> io::Result<usize>
     Ok(count.min(room.len()))
 }
 
+/// Makes the calls of a list by one `yaml_run`. Writes whether it was refused memory, all answers so far, and the state
+/// of the session.
+fn run_list(
+    out: &mut impl Write,
+    parser: &mut yaml_parser_t,
+    calls: &[yaml_call_t],
+    answers: &mut Vec<yaml_answer_t>,
+) -> io::Result<()> {
+    match yaml_run(parser, calls, answers) {
+        Ok(()) => writeln!(out, "ANSWERED")?,
+        Err(_) => writeln!(out, "REFUSED")?,
+    }
+    put_answers(out, answers)?;
+    put_state(out, parser)
+}
+
 /// Makes the calls of each word by one `yaml_run`, all on one parser.
 ///
 /// After each run it writes whether the run was refused memory, all answers so far, and the state of the session. The
@@ -185,12 +201,7 @@ pub fn run_words(
     let mut out = rt.stdout();
     let mut parser = yaml_parser_t::with_key_limit(rt.alloc(), &room[..count], setting, limit);
     for calls in &lists {
-        match yaml_run(&mut parser, calls, &mut answers) {
-            Ok(()) => writeln!(out, "ANSWERED")?,
-            Err(_) => writeln!(out, "REFUSED")?,
-        }
-        put_answers(&mut out, &answers)?;
-        put_state(&mut out, &parser)?;
+        run_list(&mut out, &mut parser, calls, &mut answers)?;
     }
     Ok(())
 }
@@ -223,6 +234,12 @@ pub fn make_call(
     }
 }
 
+/// Makes the call of a letter, and writes its answer and the state of the session.
+fn make_call_of(out: &mut impl Write, parser: &mut yaml_parser_t, letter: u8) -> io::Result<()> {
+    make_call(out, parser, call_of(letter))?;
+    put_state(out, parser)
+}
+
 /// Makes the calls of a word one by one on a parser, and writes the state of the session after each.
 pub fn make_calls(
     rt: &HostRuntime,
@@ -238,8 +255,7 @@ pub fn make_calls(
     let mut out = rt.stdout();
     let mut parser = yaml_parser_t::with_key_limit(rt.alloc(), &room[..count], setting, limit);
     for letter in word.bytes() {
-        make_call(&mut out, &mut parser, call_of(letter))?;
-        put_state(&mut out, &parser)?;
+        make_call_of(&mut out, &mut parser, letter)?;
     }
     Ok(())
 }
@@ -251,6 +267,20 @@ fn put_tokens(out: &mut impl Write, tokens: &[yaml_token_t]) -> io::Result<()> {
     Ok(())
 }
 
+/// Writes all tokens that were listed, and the fault that came after them, if one did.
+fn put_listed(
+    out: &mut impl Write,
+    tokens: &[yaml_token_t],
+    fault: Option<yaml_fault_t>,
+) -> io::Result<()> {
+    writeln!(out, "ANSWERED")?;
+    put_tokens(out, tokens)?;
+    match &fault {
+        Some(fault) => put_fault(out, fault),
+        None => Ok(()),
+    }
+}
+
 /// Writes all tokens of the input and its fault, by one `yaml_scan_all_limit`.
 pub fn scan_all(rt: &HostRuntime, setting: yaml_encoding_t, limit: u32) -> io::Result<()>
     requires least { 1 ≤ limit }
@@ -260,16 +290,17 @@ pub fn scan_all(rt: &HostRuntime, setting: yaml_encoding_t, limit: u32) -> io::R
     let count = read_input(&mut rt.stdin(), &mut room)?;
     let mut out = rt.stdout();
     match yaml_scan_all_limit(rt.alloc(), &room[..count], setting, limit) {
-        Ok((tokens, fault)) => {
-            writeln!(out, "ANSWERED")?;
-            put_tokens(&mut out, &tokens)?;
-            match &fault {
-                Some(fault) => put_fault(&mut out, fault),
-                None => Ok(()),
-            }
-        }
+        Ok((tokens, fault)) => put_listed(&mut out, &tokens, fault),
         Err(_) => writeln!(out, "REFUSED"),
     }
+}
+
+/// Writes the encoding and the bytes of a text.
+fn put_text(out: &mut impl Write, text: &yaml_text_t) -> io::Result<()> {
+    let encoding = text.encoding();
+    write!(out, "TEXT {encoding:?} ")?;
+    out.write_all(text.bytes())?;
+    writeln!(out)
 }
 
 /// Writes the encoding and the bytes of the text of the input, or its fault, by one `yaml_decode`.
@@ -278,14 +309,18 @@ pub fn decode(rt: &HostRuntime, setting: yaml_encoding_t) -> io::Result<()> {
     let count = read_input(&mut rt.stdin(), &mut room)?;
     let mut out = rt.stdout();
     match yaml_decode(rt.alloc(), &room[..count], setting) {
-        Ok(text) => {
-            let encoding = text.encoding();
-            write!(out, "TEXT {encoding:?} ")?;
-            out.write_all(text.bytes())?;
-            writeln!(out)
-        }
+        Ok(text) => put_text(&mut out, &text),
         Err(fault) => put_fault(&mut out, &fault),
     }
+}
+
+/// Writes the marks of a lexeme, and what it says.
+fn put_lexeme(out: &mut impl Write, lexeme: &yaml_lexeme_t) -> io::Result<()> {
+    write!(out, "LEXEME")?;
+    put_mark(out, lexeme.start_mark)?;
+    put_mark(out, lexeme.end_mark)?;
+    put_data(out, &lexeme.token_data)?;
+    writeln!(out)
 }
 
 /// Writes the lexeme at the front of a text, outside of flow and with no level open, or its fault.
@@ -301,13 +336,7 @@ fn put_front(out: &mut impl Write, alloc: Global, text: &yaml_text_t) -> io::Res
         level: None,
     };
     match yaml_lexeme_at(alloc, text, at, kind, context) {
-        Ok(lexeme) => {
-            write!(out, "LEXEME")?;
-            put_mark(out, lexeme.start_mark)?;
-            put_mark(out, lexeme.end_mark)?;
-            put_data(out, &lexeme.token_data)?;
-            writeln!(out)
-        }
+        Ok(lexeme) => put_lexeme(out, &lexeme),
         Err(fault) => put_fault(out, &fault),
     }
 }
