@@ -144,19 +144,43 @@ fn put_returned(
     }
 }
 
-/// Makes one call with a sink of a room. Writes the tokens that went there, what was returned, and the state of the
-/// session. Returns whether the session is over.
-fn take_batch(out: &mut impl Write, parser: &mut yaml_parser_t, room: room_t) -> io::Result<bool> {
+/// Makes one call with a sink of a room. Writes the tokens that went there, and returns what the call returned.
+fn give_batch(
+    out: &mut impl Write,
+    parser: &mut yaml_parser_t,
+    room: room_t,
+) -> io::Result<Result<Option<yaml_token_t>, yaml_fault_t>> {
     let mut lister = lister_t {
-        out: &mut *out,
+        out,
         left: room,
         written: Ok(()),
     };
     let returned = yaml_scan_next_to(parser, &mut lister);
     lister.written?;
+    Ok(returned)
+}
+
+/// Makes one call with a sink of a room. Writes the tokens that went there, what was returned, and the state of the
+/// session. Returns whether the session is over.
+fn take_batch(out: &mut impl Write, parser: &mut yaml_parser_t, room: room_t) -> io::Result<bool> {
+    let returned = give_batch(out, parser, room)?;
     let over = put_returned(out, &returned)?;
     put_state(out, parser)?;
     Ok(over)
+}
+
+/// Takes batches, each with a sink of a room, until the session is over and [`CALLS_PAST_THE_END`] more calls are made.
+fn take_each(out: &mut impl Write, parser: &mut yaml_parser_t, room: room_t) -> io::Result<()> {
+    let mut calls_over: u32 = 0;
+    'calls: for _ in 0..u64::MAX {
+        if calls_over > CALLS_PAST_THE_END {
+            break;
+        }
+        if take_batch(out, parser, room)? {
+            calls_over += 1;
+        }
+    }
+    Ok(())
 }
 
 /// Takes all tokens of the input in batches. Each goes to a sink of the room that the words say.
@@ -175,19 +199,21 @@ pub fn take_batches(
 {
     let room = room_of(words).ok_or(wrong_words())?;
     let mut bytes = [0u8; MOST];
-    let count = read_input(&mut rt.stdin(), &mut bytes)?;
-    let mut out = rt.stdout();
-    let mut parser = yaml_parser_t::with_key_limit(rt.alloc(), &bytes[..count], setting, limit);
-    let mut calls_over: u32 = 0;
-    'calls: for _ in 0..u64::MAX {
-        if calls_over > CALLS_PAST_THE_END {
-            break;
-        }
-        if take_batch(&mut out, &mut parser, room)? {
-            calls_over += 1;
-        }
+    let input = read_input(rt, &mut bytes)?;
+    let mut parser = yaml_parser_t::with_key_limit(rt.alloc(), input, setting, limit);
+    take_each(&mut rt.stdout(), &mut parser, room)
+}
+
+/// Writes the fault that all tokens were given with, or that there is none, or that memory was refused.
+fn put_end(
+    out: &mut impl Write,
+    given: &Result<Option<yaml_fault_t>, AllocError>,
+) -> io::Result<()> {
+    match given {
+        Ok(Some(fault)) => put_fault(out, fault),
+        Ok(None) => writeln!(out, "ENDED"),
+        Err(_) => writeln!(out, "REFUSED"),
     }
-    Ok(())
 }
 
 /// Gives all tokens of the input to a sink of the room that the words say, by one `yaml_scan_to`. Then it writes the
@@ -207,18 +233,14 @@ pub fn give_all(
 {
     let left = room_of(words).ok_or(wrong_words())?;
     let mut bytes = [0u8; MOST];
-    let count = read_input(&mut rt.stdin(), &mut bytes)?;
+    let input = read_input(rt, &mut bytes)?;
     let mut out = rt.stdout();
     let mut lister = lister_t {
         out: &mut out,
         left,
         written: Ok(()),
     };
-    let given = yaml_scan_to(rt.alloc(), &bytes[..count], setting, limit, &mut lister);
+    let given = yaml_scan_to(rt.alloc(), input, setting, limit, &mut lister);
     lister.written?;
-    match given {
-        Ok(Some(fault)) => put_fault(&mut out, &fault),
-        Ok(None) => writeln!(out, "ENDED"),
-        Err(_) => writeln!(out, "REFUSED"),
-    }
+    put_end(&mut out, &given)
 }

@@ -15,7 +15,7 @@ use yaml_scan::{
     yaml_encoding_t, yaml_fault_t, yaml_lexeme_at, yaml_lexeme_kind, yaml_lexeme_t, yaml_mark_t,
     yaml_parser_fault, yaml_parser_has_token, yaml_parser_mark, yaml_parser_peek,
     yaml_parser_queued, yaml_parser_scan, yaml_parser_skip, yaml_parser_t, yaml_run,
-    yaml_scan_all_limit, yaml_text_t, yaml_token_t,
+    yaml_scalar_style_t, yaml_scan_all_limit, yaml_text_t, yaml_token_t, yaml_token_type_t,
 };
 
 /// What comes after so many bytes of an input is not read.
@@ -27,11 +27,8 @@ const KEY_LIMIT: u32 = 1024;
 /// The greatest key limit, in bytes.
 pub const MOST_KEY_LIMIT: u32 = 65536;
 
-fn put_bytes(out: &mut impl Write, bytes: &[u8]) -> io::Result<()> {
-    write!(out, " ")?;
-    if bytes.is_empty() {
-        return write!(out, "-");
-    }
+/// Writes bytes in hexadecimal.
+fn put_hex(out: &mut impl Write, bytes: &[u8]) -> io::Result<()> {
     for b in bytes {
         let b = *b;
         write!(out, "{b:02x}")?;
@@ -39,66 +36,103 @@ fn put_bytes(out: &mut impl Write, bytes: &[u8]) -> io::Result<()> {
     Ok(())
 }
 
+/// Writes a space, and bytes in hexadecimal, or `-` for none.
+fn put_bytes(out: &mut impl Write, bytes: &[u8]) -> io::Result<()> {
+    if bytes.is_empty() {
+        return write!(out, " -");
+    }
+    write!(out, " ")?;
+    put_hex(out, bytes)
+}
+
+/// Writes two texts, each after a space.
+fn put_pair(out: &mut impl Write, first: &[u8], second: &[u8]) -> io::Result<()> {
+    put_bytes(out, first)?;
+    put_bytes(out, second)
+}
+
+/// Writes the style of a scalar and its text, each after a space.
+fn put_scalar(out: &mut impl Write, style: yaml_scalar_style_t, value: &[u8]) -> io::Result<()> {
+    write!(out, " {style:?}")?;
+    put_bytes(out, value)
+}
+
+fn put_encoding(out: &mut impl Write, encoding: yaml_encoding_t) -> io::Result<()> {
+    write!(out, " {encoding:?}")
+}
+
+fn put_version(out: &mut impl Write, major: i32, minor: i32) -> io::Result<()> {
+    write!(out, " {major} {minor}")
+}
+
 fn put_data(out: &mut impl Write, data: &unnamed_yaml_token_t_data) -> io::Result<()> {
     match data {
-        unnamed_yaml_token_t_data::STREAM_START { encoding } => {
-            let encoding = *encoding;
-            write!(out, " {encoding:?}")
-        }
+        unnamed_yaml_token_t_data::STREAM_START { encoding } => put_encoding(out, *encoding),
         unnamed_yaml_token_t_data::VERSION_DIRECTIVE { major, minor } => {
-            let (major, minor) = (*major, *minor);
-            write!(out, " {major} {minor}")
+            put_version(out, *major, *minor)
         }
         unnamed_yaml_token_t_data::TAG_DIRECTIVE { handle, prefix } => {
-            put_bytes(out, handle)?;
-            put_bytes(out, prefix)
+            put_pair(out, handle, prefix)
         }
         unnamed_yaml_token_t_data::ALIAS { value } => put_bytes(out, value),
         unnamed_yaml_token_t_data::ANCHOR { value } => put_bytes(out, value),
-        unnamed_yaml_token_t_data::TAG { handle, suffix } => {
-            put_bytes(out, handle)?;
-            put_bytes(out, suffix)
-        }
-        unnamed_yaml_token_t_data::SCALAR { value, style } => {
-            let style = *style;
-            write!(out, " {style:?}")?;
-            put_bytes(out, value)
-        }
+        unnamed_yaml_token_t_data::TAG { handle, suffix } => put_pair(out, handle, suffix),
+        unnamed_yaml_token_t_data::SCALAR { value, style } => put_scalar(out, *style, value),
         _ => Ok(()),
     }
+}
+
+/// Writes two marks, each after a space.
+fn put_marks(out: &mut impl Write, first: yaml_mark_t, second: yaml_mark_t) -> io::Result<()> {
+    put_mark(out, first)?;
+    put_mark(out, second)
 }
 
 /// Writes the line of a token.
 pub fn put_token(out: &mut impl Write, token: &yaml_token_t) -> io::Result<()> {
     let kind = token.type_();
     write!(out, "TOKEN {kind:?}")?;
-    put_mark(out, token.start_mark)?;
-    put_mark(out, token.end_mark)?;
+    put_marks(out, token.start_mark, token.end_mark)?;
     put_data(out, &token.token_data)?;
     writeln!(out)
 }
 
-/// Writes the line of a fault.
-pub fn put_fault(out: &mut impl Write, fault: &yaml_fault_t) -> io::Result<()> {
+/// Writes the kind of a fault, and the offset and the value of what is wrong with an input that is no text.
+fn put_kind(out: &mut impl Write, fault: &yaml_fault_t) -> io::Result<()> {
     let (error, offset, value) = (fault.error, fault.problem_offset, fault.problem_value);
+    write!(out, "FAULT {error} {offset} {value}")
+}
+
+/// Writes the texts of a fault's context and its problem, and the end of the line.
+fn put_problem(out: &mut impl Write, fault: &yaml_fault_t) -> io::Result<()> {
     let problem = fault.problem.unwrap_or("-");
     let context = fault.context.unwrap_or("-");
-    write!(out, "FAULT {error} {offset} {value}")?;
-    put_mark(out, fault.context_mark)?;
-    put_mark(out, fault.problem_mark)?;
     writeln!(out, " {context}; {problem}")
+}
+
+/// Writes the line of a fault.
+pub fn put_fault(out: &mut impl Write, fault: &yaml_fault_t) -> io::Result<()> {
+    put_kind(out, fault)?;
+    put_marks(out, fault.context_mark, fault.problem_mark)?;
+    put_problem(out, fault)
+}
+
+/// Writes the line of a peek: the type of the token that it showed, and its marks.
+fn put_peeked(
+    out: &mut impl Write,
+    kind: yaml_token_type_t,
+    start: yaml_mark_t,
+    end: yaml_mark_t,
+) -> io::Result<()> {
+    write!(out, "PEEKED {kind:?}")?;
+    put_marks(out, start, end)?;
+    writeln!(out)
 }
 
 fn put_answer(out: &mut impl Write, answer: &yaml_answer_t) -> io::Result<()> {
     match answer {
         yaml_answer_t::TOKEN(token) => put_token(out, token),
-        yaml_answer_t::PEEKED(kind, start, end) => {
-            let kind = *kind;
-            write!(out, "PEEKED {kind:?}")?;
-            put_mark(out, *start)?;
-            put_mark(out, *end)?;
-            writeln!(out)
-        }
+        yaml_answer_t::PEEKED(kind, start, end) => put_peeked(out, *kind, *start, *end),
         yaml_answer_t::SKIPPED => writeln!(out, "SKIPPED"),
         yaml_answer_t::NOTHING => writeln!(out, "NOTHING"),
         yaml_answer_t::FAULT(fault) => put_fault(out, fault),
@@ -112,18 +146,28 @@ fn put_answers(out: &mut impl Write, answers: &[yaml_answer_t]) -> io::Result<()
     Ok(())
 }
 
-/// Whether a token was peeked, how many steps are queued, how far was read, and the fault.
-pub fn put_state(out: &mut impl Write, parser: &yaml_parser_t) -> io::Result<()> {
-    let (has_token, queued) = (yaml_parser_has_token(parser), yaml_parser_queued(parser));
-    write!(out, "STATE {has_token} {queued}")?;
-    put_mark(out, yaml_parser_mark(parser))?;
-    match yaml_parser_fault(parser) {
+/// Writes the end of the line of a state: the fault of the session, or `-` if it has none.
+fn put_fault_of(out: &mut impl Write, fault: Option<&yaml_fault_t>) -> io::Result<()> {
+    match fault {
         Some(fault) => {
             write!(out, " ")?;
             put_fault(out, fault)
         }
         None => writeln!(out, " -"),
     }
+}
+
+/// Writes whether a token was peeked, and how many steps are queued.
+fn put_queued(out: &mut impl Write, has_token: bool, queued: u64) -> io::Result<()> {
+    write!(out, "STATE {has_token} {queued}")
+}
+
+/// Whether a token was peeked, how many steps are queued, how far was read, and the fault.
+pub fn put_state(out: &mut impl Write, parser: &yaml_parser_t) -> io::Result<()> {
+    let (has_token, queued) = (yaml_parser_has_token(parser), yaml_parser_queued(parser));
+    put_queued(out, has_token, queued)?;
+    put_mark(out, yaml_parser_mark(parser))?;
+    put_fault_of(out, yaml_parser_fault(parser))
 }
 
 /// The call of a letter: `s` is a scan, `p` a peek, and any other a skip.
@@ -147,8 +191,8 @@ fn lists_of(alloc: Global, words: &[String]) -> Result<Vec<Vec<yaml_call_t>>, Al
     Ok(lists)
 }
 
-/// Reads the input to its end, or until there is no room, and returns how many bytes it has.
-pub fn read_input(reader: &mut impl Read, room: &mut [u8]) -> io::Result<usize>
+/// Reads to the end of the input, or until there is no room, and returns how many bytes were read.
+fn read_into(reader: &mut impl Read, room: &mut [u8]) -> io::Result<usize>
     ensures { IfOk result (λ count. count ≤ length room.new) }
 {
     let mut count = 0;
@@ -165,6 +209,20 @@ pub fn read_input(reader: &mut impl Read, room: &mut [u8]) -> io::Result<usize>
     Ok(count.min(room.len()))
 }
 
+/// Reads the input to its end, or until there is no room, and returns its bytes.
+pub fn read_input<'a>(rt: &HostRuntime, room: &'a mut [u8]) -> io::Result<&'a [u8]> {
+    let count = read_into(&mut rt.stdin(), room)?;
+    Ok(&room[..count])
+}
+
+/// Writes whether a run was refused memory.
+fn put_outcome(out: &mut impl Write, outcome: Result<(), AllocError>) -> io::Result<()> {
+    match outcome {
+        Ok(()) => writeln!(out, "ANSWERED"),
+        Err(_) => writeln!(out, "REFUSED"),
+    }
+}
+
 /// Makes the calls of a list by one `yaml_run`. Writes whether it was refused memory, all answers so far, and the state
 /// of the session.
 fn run_list(
@@ -173,12 +231,22 @@ fn run_list(
     calls: &[yaml_call_t],
     answers: &mut Vec<yaml_answer_t>,
 ) -> io::Result<()> {
-    match yaml_run(parser, calls, answers) {
-        Ok(()) => writeln!(out, "ANSWERED")?,
-        Err(_) => writeln!(out, "REFUSED")?,
-    }
+    put_outcome(out, yaml_run(parser, calls, answers))?;
     put_answers(out, answers)?;
     put_state(out, parser)
+}
+
+/// Makes the calls of each list, all on one parser, as [`run_list`] does.
+fn run_lists(
+    out: &mut impl Write,
+    parser: &mut yaml_parser_t,
+    lists: &[Vec<yaml_call_t>],
+    answers: &mut Vec<yaml_answer_t>,
+) -> io::Result<()> {
+    for calls in lists {
+        run_list(out, parser, calls, answers)?;
+    }
+    Ok(())
 }
 
 /// Makes the calls of each word by one `yaml_run`, all on one parser.
@@ -197,13 +265,40 @@ pub fn run_words(
     let lists = lists_of(rt.alloc(), words)?;
     let mut answers = vec![in rt.alloc(); yaml_answer_t::NOTHING]?;
     let mut room = [0u8; MOST];
-    let count = read_input(&mut rt.stdin(), &mut room)?;
-    let mut out = rt.stdout();
-    let mut parser = yaml_parser_t::with_key_limit(rt.alloc(), &room[..count], setting, limit);
-    for calls in &lists {
-        run_list(&mut out, &mut parser, calls, &mut answers)?;
+    let input = read_input(rt, &mut room)?;
+    let mut parser = yaml_parser_t::with_key_limit(rt.alloc(), input, setting, limit);
+    run_lists(&mut rt.stdout(), &mut parser, &lists, &mut answers)
+}
+
+/// Writes the answer of a scan.
+fn put_scanned(
+    out: &mut impl Write,
+    scanned: &Result<yaml_token_t, yaml_fault_t>,
+) -> io::Result<()> {
+    match scanned {
+        Ok(token) => put_token(out, token),
+        Err(fault) => put_fault(out, fault),
     }
-    Ok(())
+}
+
+/// Makes a peek and writes its answer.
+fn make_peek(out: &mut impl Write, parser: &mut yaml_parser_t) -> io::Result<()> {
+    match yaml_parser_peek(parser) {
+        Ok(token) => {
+            write!(out, "PEEKED ")?;
+            put_token(out, token)
+        }
+        Err(fault) => put_fault(out, &fault),
+    }
+}
+
+/// Skips the token that was peeked, if one was, and writes the answer.
+fn make_skip(out: &mut impl Write, parser: &mut yaml_parser_t) -> io::Result<()> {
+    if !yaml_parser_has_token(parser) {
+        return writeln!(out, "NOTHING");
+    }
+    yaml_parser_skip(parser);
+    writeln!(out, "SKIPPED")
 }
 
 /// Makes one call and writes its answer.
@@ -213,24 +308,9 @@ pub fn make_call(
     call: yaml_call_t,
 ) -> io::Result<()> {
     match call {
-        yaml_call_t::SCAN => match yaml_parser_scan(parser) {
-            Ok(token) => put_token(out, &token),
-            Err(fault) => put_fault(out, &fault),
-        },
-        yaml_call_t::PEEK => match yaml_parser_peek(parser) {
-            Ok(token) => {
-                write!(out, "PEEKED ")?;
-                put_token(out, token)
-            }
-            Err(fault) => put_fault(out, &fault),
-        },
-        yaml_call_t::SKIP => {
-            if !yaml_parser_has_token(parser) {
-                return writeln!(out, "NOTHING");
-            }
-            yaml_parser_skip(parser);
-            writeln!(out, "SKIPPED")
-        }
+        yaml_call_t::SCAN => put_scanned(out, &yaml_parser_scan(parser)),
+        yaml_call_t::PEEK => make_peek(out, parser),
+        yaml_call_t::SKIP => make_skip(out, parser),
     }
 }
 
@@ -238,6 +318,14 @@ pub fn make_call(
 fn make_call_of(out: &mut impl Write, parser: &mut yaml_parser_t, letter: u8) -> io::Result<()> {
     make_call(out, parser, call_of(letter))?;
     put_state(out, parser)
+}
+
+/// Makes the calls of a word one by one, as [`make_call_of`] does.
+fn make_calls_of(out: &mut impl Write, parser: &mut yaml_parser_t, word: &str) -> io::Result<()> {
+    for letter in word.bytes() {
+        make_call_of(out, parser, letter)?;
+    }
+    Ok(())
 }
 
 /// Makes the calls of a word one by one on a parser, and writes the state of the session after each.
@@ -251,13 +339,9 @@ pub fn make_calls(
     requires most { limit ≤ MOST_KEY_LIMIT }
 {
     let mut room = [0u8; MOST];
-    let count = read_input(&mut rt.stdin(), &mut room)?;
-    let mut out = rt.stdout();
-    let mut parser = yaml_parser_t::with_key_limit(rt.alloc(), &room[..count], setting, limit);
-    for letter in word.bytes() {
-        make_call_of(&mut out, &mut parser, letter)?;
-    }
-    Ok(())
+    let input = read_input(rt, &mut room)?;
+    let mut parser = yaml_parser_t::with_key_limit(rt.alloc(), input, setting, limit);
+    make_calls_of(&mut rt.stdout(), &mut parser, word)
 }
 
 fn put_tokens(out: &mut impl Write, tokens: &[yaml_token_t]) -> io::Result<()> {
@@ -287,9 +371,9 @@ pub fn scan_all(rt: &HostRuntime, setting: yaml_encoding_t, limit: u32) -> io::R
     requires most { limit ≤ MOST_KEY_LIMIT }
 {
     let mut room = [0u8; MOST];
-    let count = read_input(&mut rt.stdin(), &mut room)?;
+    let input = read_input(rt, &mut room)?;
     let mut out = rt.stdout();
-    match yaml_scan_all_limit(rt.alloc(), &room[..count], setting, limit) {
+    match yaml_scan_all_limit(rt.alloc(), input, setting, limit) {
         Ok((tokens, fault)) => put_listed(&mut out, &tokens, fault),
         Err(_) => writeln!(out, "REFUSED"),
     }
@@ -306,9 +390,9 @@ fn put_text(out: &mut impl Write, text: &yaml_text_t) -> io::Result<()> {
 /// Writes the encoding and the bytes of the text of the input, or its fault, by one `yaml_decode`.
 pub fn decode(rt: &HostRuntime, setting: yaml_encoding_t) -> io::Result<()> {
     let mut room = [0u8; MOST];
-    let count = read_input(&mut rt.stdin(), &mut room)?;
+    let input = read_input(rt, &mut room)?;
     let mut out = rt.stdout();
-    match yaml_decode(rt.alloc(), &room[..count], setting) {
+    match yaml_decode(rt.alloc(), input, setting) {
         Ok(text) => put_text(&mut out, &text),
         Err(fault) => put_fault(&mut out, &fault),
     }
@@ -317,8 +401,7 @@ pub fn decode(rt: &HostRuntime, setting: yaml_encoding_t) -> io::Result<()> {
 /// Writes the marks of a lexeme, and what it says.
 fn put_lexeme(out: &mut impl Write, lexeme: &yaml_lexeme_t) -> io::Result<()> {
     write!(out, "LEXEME")?;
-    put_mark(out, lexeme.start_mark)?;
-    put_mark(out, lexeme.end_mark)?;
+    put_marks(out, lexeme.start_mark, lexeme.end_mark)?;
     put_data(out, &lexeme.token_data)?;
     writeln!(out)
 }
@@ -344,22 +427,31 @@ fn put_front(out: &mut impl Write, alloc: Global, text: &yaml_text_t) -> io::Res
 /// Decodes the input, and writes the lexeme at the front of its text.
 pub fn read_front(rt: &HostRuntime, setting: yaml_encoding_t) -> io::Result<()> {
     let mut room = [0u8; MOST];
-    let count = read_input(&mut rt.stdin(), &mut room)?;
+    let input = read_input(rt, &mut room)?;
     let mut out = rt.stdout();
-    match yaml_decode(rt.alloc(), &room[..count], setting) {
+    match yaml_decode(rt.alloc(), input, setting) {
         Ok(text) => put_front(&mut out, rt.alloc(), &text),
         Err(fault) => put_fault(&mut out, &fault),
     }
 }
 
+/// Writes the state of a new parser of an input.
+fn put_new_state(
+    out: &mut impl Write,
+    alloc: Global,
+    input: &[u8],
+    setting: yaml_encoding_t,
+) -> io::Result<()> {
+    put_state(out, &yaml_parser_t::new(alloc, input, setting))
+}
+
 /// Makes the calls that take no memory: a new parser, its state, decoding of UTF-8, and what [`put_places`] makes.
 pub fn call_bare(rt: &HostRuntime, setting: yaml_encoding_t) -> io::Result<()> {
     let mut room = [0u8; MOST];
-    let count = read_input(&mut rt.stdin(), &mut room)?;
+    let input = read_input(rt, &mut room)?;
     let mut out = rt.stdout();
-    let parser = yaml_parser_t::new(rt.alloc(), &room[..count], setting);
-    put_state(&mut out, &parser)?;
-    match yaml_decode(rt.alloc(), &room[..count], setting) {
+    put_new_state(&mut out, rt.alloc(), input, setting)?;
+    match yaml_decode(rt.alloc(), input, setting) {
         Ok(text) => put_places(&mut out, rt.alloc(), &text),
         Err(fault) => put_fault(&mut out, &fault),
     }
