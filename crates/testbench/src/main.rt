@@ -65,18 +65,30 @@ use count::count;
 use measure::{measure, task_of, work_t};
 use rows::answer_rows;
 use session::{limit_or_usual, wrong_words};
+use std::alloc::Global;
 use std::io::{BufRead, BufReader, BufWriter, Read, Write};
 use std::{env, io};
 use words::word_at;
 
-fn answer_lines(rt: &HostRuntime) -> io::Result<()> {
+/// Writes the answer to a line.
+fn put_answer(out: &mut impl Write, alloc: Global, line: &str) -> io::Result<()> {
+    let mut text = answer(alloc, line)?;
+    text.push_str("\n")?;
+    out.write_all(text.as_bytes())
+}
+
+/// Writes the answer to each line of the input.
+fn put_answers(out: &mut impl Write, rt: &HostRuntime) -> io::Result<()> {
     let alloc = rt.alloc();
-    let mut out = BufWriter::new(alloc, io::writer(rt))?;
     for line in BufReader::new(alloc, rt.reader())?.lines(alloc) {
-        let mut text = answer(alloc, line?.as_str())?;
-        text.push_str("\n")?;
-        out.write_all(text.as_bytes())?;
+        put_answer(out, alloc, line?.as_str())?;
     }
+    Ok(())
+}
+
+fn answer_lines(rt: &HostRuntime) -> io::Result<()> {
+    let mut out = BufWriter::new(rt.alloc(), io::writer(rt))?;
+    put_answers(&mut out, rt)?;
     out.flush()
 }
 
@@ -97,13 +109,20 @@ fn count_input(rt: &HostRuntime, words: &[String]) -> io::Result<()> {
     io::writer(rt).write_all(text.as_bytes())
 }
 
+/// Does what the words ask for.
+fn run(rt: &HostRuntime, words: &[String]) -> io::Result<()> {
+    let Some(command) = words.first() else {
+        return answer_lines(rt);
+    };
+    match command.as_str() {
+        "measure" => measure_input(rt, words),
+        "count" => count_input(rt, words),
+        "rows" => answer_rows(rt),
+        _ => list_session(rt, words),
+    }
+}
+
 fn main(rt: HostRuntime) -> io::Result<()> {
     let words: Vec<String> = env::args(&rt)?.skip(1).collect(rt.alloc())?;
-    match words.first() {
-        Some(word) if word.as_str() == "measure" => measure_input(&rt, &words),
-        Some(word) if word.as_str() == "count" => count_input(&rt, &words),
-        Some(word) if word.as_str() == "rows" => answer_rows(&rt),
-        Some(_) => list_session(&rt, &words),
-        None => answer_lines(&rt),
-    }
+    run(&rt, &words)
 }

@@ -1,7 +1,7 @@
 //! Calls on many inputs, one input after the other.
 
-use crate::session::{call_of, limit_of, make_call, wrong_words};
-use crate::words::{bytes_of, setting_of};
+use crate::session::{call_of, checked_limit, checked_setting, make_call, wrong_words};
+use crate::words::bytes_of;
 use std::alloc::Global;
 use std::io;
 use std::io::{BufRead, BufReader, BufWriter, Write};
@@ -15,17 +15,35 @@ fn answer_calls(out: &mut impl Write, parser: &mut yaml_parser_t, word: &str) ->
     writeln!(out)
 }
 
+/// The bytes that a word spells in hexadecimal, or the error for words that are no command.
+fn checked_bytes(alloc: Global, word: &str) -> io::Result<Vec<u8>> {
+    bytes_of(alloc, word)?.ok_or(wrong_words())
+}
+
+/// Makes the calls of the words `ENC LIMIT WORD INPUT`, and writes the answers and an empty line.
+fn answer_words(alloc: Global, out: &mut impl Write, words: &[&str]) -> io::Result<()> {
+    let [setting, limit, word, input] = words else {
+        return Err(wrong_words());
+    };
+    let (setting, limit) = (checked_setting(setting)?, checked_limit(limit)?);
+    let input = checked_bytes(alloc, input)?;
+    let mut parser = yaml_parser_t::with_key_limit(alloc, &input, setting, limit);
+    answer_calls(out, &mut parser, word)
+}
+
 /// Makes the calls of a line `ENC LIMIT WORD INPUT`, and writes the answers and an empty line.
 fn answer_row(alloc: Global, out: &mut impl Write, line: &str) -> io::Result<()> {
     let words: Vec<&str> = line.split(' ').collect(alloc)?;
-    let [setting, limit, word, input] = words.as_slice() else {
-        return Err(wrong_words());
-    };
-    let setting = setting_of(setting).ok_or(wrong_words())?;
-    let limit = limit_of(limit).ok_or(wrong_words())?;
-    let input = bytes_of(alloc, input)?.ok_or(wrong_words())?;
-    let mut parser = yaml_parser_t::with_key_limit(alloc, &input, setting, limit);
-    answer_calls(out, &mut parser, word)
+    answer_words(alloc, out, words.as_slice())
+}
+
+/// Makes the calls of each line of the input, and writes the answers.
+fn answer_each(out: &mut impl Write, rt: &HostRuntime) -> io::Result<()> {
+    let alloc = rt.alloc();
+    for line in BufReader::new(alloc, rt.reader())?.lines(alloc) {
+        answer_row(alloc, out, line?.as_str())?;
+    }
+    Ok(())
 }
 
 /// Makes the calls of each line of the input, one by one, on a parser of its own.
@@ -35,10 +53,7 @@ fn answer_row(alloc: Global, out: &mut impl Write, line: &str) -> io::Result<()>
 /// `InvalidInput` if a line is no `ENC LIMIT WORD INPUT`, with the input in hexadecimal, and otherwise the error of the
 /// read, the write or the request for memory that failed.
 pub fn answer_rows(rt: &HostRuntime) -> io::Result<()> {
-    let alloc = rt.alloc();
-    let mut out = BufWriter::new(alloc, io::writer(rt))?;
-    for line in BufReader::new(alloc, rt.reader())?.lines(alloc) {
-        answer_row(alloc, &mut out, line?.as_str())?;
-    }
+    let mut out = BufWriter::new(rt.alloc(), io::writer(rt))?;
+    answer_each(&mut out, rt)?;
     out.flush()
 }

@@ -7,6 +7,7 @@ ghost use Rattle.std.specs.Prelude.{◌≤◌, IfOk, IfSome, length};
 use crate::ask::mark_at;
 use crate::bare::put_places;
 use crate::show::put_mark;
+use crate::words::setting_of;
 use std::alloc::{AllocError, Global};
 use std::io;
 use std::io::{Read, Write};
@@ -458,7 +459,7 @@ pub fn call_bare(rt: &HostRuntime, setting: yaml_encoding_t) -> io::Result<()> {
 }
 
 /// The key limit of a word, if it is one.
-pub fn limit_of(word: &str) -> Option<u32>
+fn limit_of(word: &str) -> Option<u32>
     ensures { IfSome result (λ limit. (1 ≤ limit) × (limit ≤ MOST_KEY_LIMIT)) }
 {
     match word.parse() {
@@ -480,4 +481,16 @@ pub fn limit_or_usual(word: &str) -> Option<u32>
 /// The error for words that are no command.
 pub fn wrong_words() -> io::Error {
     io::Error::from(io::ErrorKind::InvalidInput)
+}
+
+/// The encoding setting of a word, or the error for words that are no command.
+pub fn checked_setting(word: &str) -> io::Result<yaml_encoding_t> {
+    setting_of(word).ok_or(wrong_words())
+}
+
+/// The key limit of a word, or the error for words that are no command.
+pub fn checked_limit(word: &str) -> io::Result<u32>
+    ensures { IfOk result (λ limit. (1 ≤ limit) × (limit ≤ MOST_KEY_LIMIT)) }
+{
+    limit_of(word).ok_or(wrong_words())
 }
