@@ -5,15 +5,15 @@
 ghost use Rattle.std.specs.Prelude.{◌≤◌};
 
 use crate::session::{
-    MOST, MOST_KEY_LIMIT, put_fault, put_state, put_token, read_input, wrong_words,
+    MOST_KEY_LIMIT, parser_of, put_fault, put_state, put_token, start_t, wrong_words,
 };
 use crate::words::word_at;
 use std::alloc::{AllocError, Global};
 use std::io;
 use std::io::Write;
 use yaml_scan::{
-    unnamed_yaml_token_t_data, yaml_encoding_t, yaml_fault_t, yaml_parser_t, yaml_scan_next_to,
-    yaml_scan_to, yaml_token_sink_t, yaml_token_t,
+    unnamed_yaml_token_t_data, yaml_fault_t, yaml_parser_t, yaml_scan_next_to, yaml_scan_to,
+    yaml_token_sink_t, yaml_token_t,
 };
 
 /// How many calls are made after the one that returns the stream end or a fault.
@@ -187,21 +187,13 @@ fn take_each(out: &mut impl Write, parser: &mut yaml_parser_t, room: room_t) -> 
 ///
 /// # Errors
 ///
-/// `InvalidInput` if the words are no room, and otherwise the error of the read or the write that failed.
-pub fn take_batches(
-    rt: &HostRuntime,
-    setting: yaml_encoding_t,
-    limit: u32,
-    words: &[String],
-) -> io::Result<()>
-    requires least { 1 ≤ limit }
-    requires most { limit ≤ MOST_KEY_LIMIT }
+/// `InvalidInput` if the words are no room, and otherwise the error of the write that failed.
+pub fn take_batches(rt: &HostRuntime, start: start_t, words: &[String]) -> io::Result<()>
+    requires least { 1 ≤ start.limit }
+    requires most { start.limit ≤ MOST_KEY_LIMIT }
 {
     let room = room_of(words).ok_or(wrong_words())?;
-    let mut bytes = [0u8; MOST];
-    let input = read_input(rt, &mut bytes)?;
-    let mut parser = yaml_parser_t::with_key_limit(rt.alloc(), input, setting, limit);
-    take_each(&mut rt.stdout(), &mut parser, room)
+    take_each(&mut rt.stdout(), &mut parser_of(rt.alloc(), start), room)
 }
 
 /// Writes the fault that all tokens were given with, or that there is none, or that memory was refused.
@@ -221,26 +213,25 @@ fn put_end(
 ///
 /// # Errors
 ///
-/// `InvalidInput` if the words are no room, and otherwise the error of the read or the write that failed.
-pub fn give_all(
-    rt: &HostRuntime,
-    setting: yaml_encoding_t,
-    limit: u32,
-    words: &[String],
-) -> io::Result<()>
-    requires least { 1 ≤ limit }
-    requires most { limit ≤ MOST_KEY_LIMIT }
+/// `InvalidInput` if the words are no room, and otherwise the error of the write that failed.
+pub fn give_all(rt: &HostRuntime, start: start_t, words: &[String]) -> io::Result<()>
+    requires least { 1 ≤ start.limit }
+    requires most { start.limit ≤ MOST_KEY_LIMIT }
 {
     let left = room_of(words).ok_or(wrong_words())?;
-    let mut bytes = [0u8; MOST];
-    let input = read_input(rt, &mut bytes)?;
     let mut out = rt.stdout();
     let mut lister = lister_t {
         out: &mut out,
         left,
         written: Ok(()),
     };
-    let given = yaml_scan_to(rt.alloc(), input, setting, limit, &mut lister);
+    let given = yaml_scan_to(
+        rt.alloc(),
+        start.input,
+        start.setting,
+        start.limit,
+        &mut lister,
+    );
     lister.written?;
     put_end(&mut out, &given)
 }

@@ -28,6 +28,22 @@ const KEY_LIMIT: u32 = 1024;
 /// The greatest key limit, in bytes.
 pub const MOST_KEY_LIMIT: u32 = 65536;
 
+/// What a session begins with: the input, the encoding setting and the key limit.
+#[derive(Clone, Copy)]
+pub struct start_t<'a> {
+    pub input: &'a [u8],
+    pub setting: yaml_encoding_t,
+    pub limit: u32,
+}
+
+/// A new parser.
+pub fn parser_of<'a>(alloc: Global, start: start_t<'a>) -> yaml_parser_t<'a>
+    requires least { 1 ≤ start.limit }
+    requires most { start.limit ≤ MOST_KEY_LIMIT }
+{
+    yaml_parser_t::with_key_limit(alloc, start.input, start.setting, start.limit)
+}
+
 /// Writes bytes in hexadecimal.
 fn put_hex(out: &mut impl Write, bytes: &[u8]) -> io::Result<()> {
     for b in bytes {
@@ -192,8 +208,8 @@ fn lists_of(alloc: Global, words: &[String]) -> Result<Vec<Vec<yaml_call_t>>, Al
     Ok(lists)
 }
 
-/// Reads to the end of the input, or until there is no room, and returns how many bytes were read.
-fn read_into(reader: &mut impl Read, room: &mut [u8]) -> io::Result<usize>
+/// Reads the input to its end, or until there is no room, and returns how many bytes it has.
+pub fn read_input(reader: &mut impl Read, room: &mut [u8]) -> io::Result<usize>
     ensures { IfOk result (λ count. count ≤ length room.new) }
 {
     let mut count = 0;
@@ -208,12 +224,6 @@ fn read_into(reader: &mut impl Read, room: &mut [u8]) -> io::Result<usize>
         count += more;
     }
     Ok(count.min(room.len()))
-}
-
-/// Reads the input to its end, or until there is no room, and returns its bytes.
-pub fn read_input<'a>(rt: &HostRuntime, room: &'a mut [u8]) -> io::Result<&'a [u8]> {
-    let count = read_into(&mut rt.stdin(), room)?;
-    Ok(&room[..count])
 }
 
 /// Writes whether a run was refused memory.
@@ -237,20 +247,49 @@ fn run_list(
     put_state(out, parser)
 }
 
-/// Makes the calls of each list, all on one parser, as [`run_list`] does.
+/// The calls of a command, made ready before the input is read: a list for each word, and the answers so far.
+#[derive(Drop)]
+struct script_t {
+    lists: Vec<Vec<yaml_call_t>>,
+    answers: Vec<yaml_answer_t>,
+}
+
+/// The script of these words. Its answers begin with one that none of the calls gave.
+fn script_of(alloc: Global, words: &[String]) -> Result<script_t, AllocError> {
+    let lists = lists_of(alloc, words)?;
+    let answers = vec![in alloc; yaml_answer_t::NOTHING]?;
+    Ok(script_t { lists, answers })
+}
+
+/// Makes the calls of each list of a script, all on one parser, as [`run_list`] does.
 fn run_lists(
     out: &mut impl Write,
     parser: &mut yaml_parser_t,
-    lists: &[Vec<yaml_call_t>],
-    answers: &mut Vec<yaml_answer_t>,
+    script: &mut script_t,
 ) -> io::Result<()> {
-    for calls in lists {
-        run_list(out, parser, calls, answers)?;
+    for calls in &script.lists {
+        run_list(out, parser, calls, &mut script.answers)?;
     }
     Ok(())
 }
 
-/// Makes the calls of each word by one `yaml_run`, all on one parser.
+/// Reads the input, and makes the calls of a script on a parser of it.
+fn run_script(
+    rt: &HostRuntime,
+    setting: yaml_encoding_t,
+    limit: u32,
+    script: &mut script_t,
+) -> io::Result<()>
+    requires least { 1 ≤ limit }
+    requires most { limit ≤ MOST_KEY_LIMIT }
+{
+    let mut room = [0u8; MOST];
+    let count = read_input(&mut rt.stdin(), &mut room)?;
+    let mut parser = yaml_parser_t::with_key_limit(rt.alloc(), &room[..count], setting, limit);
+    run_lists(&mut rt.stdout(), &mut parser, script)
+}
+
+/// Reads the input, and makes the calls of each word by one `yaml_run`, all on one parser.
 ///
 /// After each run it writes whether the run was refused memory, all answers so far, and the state of the session. The
 /// answers begin with one that none of the calls gave.
@@ -263,12 +302,8 @@ pub fn run_words(
     requires least { 1 ≤ limit }
     requires most { limit ≤ MOST_KEY_LIMIT }
 {
-    let lists = lists_of(rt.alloc(), words)?;
-    let mut answers = vec![in rt.alloc(); yaml_answer_t::NOTHING]?;
-    let mut room = [0u8; MOST];
-    let input = read_input(rt, &mut room)?;
-    let mut parser = yaml_parser_t::with_key_limit(rt.alloc(), input, setting, limit);
-    run_lists(&mut rt.stdout(), &mut parser, &lists, &mut answers)
+    let mut script = script_of(rt.alloc(), words)?;
+    run_script(rt, setting, limit, &mut script)
 }
 
 /// Writes the answer of a scan.
@@ -330,19 +365,11 @@ fn make_calls_of(out: &mut impl Write, parser: &mut yaml_parser_t, word: &str) -
 }
 
 /// Makes the calls of a word one by one on a parser, and writes the state of the session after each.
-pub fn make_calls(
-    rt: &HostRuntime,
-    setting: yaml_encoding_t,
-    limit: u32,
-    word: &str,
-) -> io::Result<()>
-    requires least { 1 ≤ limit }
-    requires most { limit ≤ MOST_KEY_LIMIT }
+pub fn make_calls(rt: &HostRuntime, start: start_t, word: &str) -> io::Result<()>
+    requires least { 1 ≤ start.limit }
+    requires most { start.limit ≤ MOST_KEY_LIMIT }
 {
-    let mut room = [0u8; MOST];
-    let input = read_input(rt, &mut room)?;
-    let mut parser = yaml_parser_t::with_key_limit(rt.alloc(), input, setting, limit);
-    make_calls_of(&mut rt.stdout(), &mut parser, word)
+    make_calls_of(&mut rt.stdout(), &mut parser_of(rt.alloc(), start), word)
 }
 
 fn put_tokens(out: &mut impl Write, tokens: &[yaml_token_t]) -> io::Result<()> {
@@ -356,26 +383,24 @@ fn put_tokens(out: &mut impl Write, tokens: &[yaml_token_t]) -> io::Result<()> {
 fn put_listed(
     out: &mut impl Write,
     tokens: &[yaml_token_t],
-    fault: Option<yaml_fault_t>,
+    fault: &Option<yaml_fault_t>,
 ) -> io::Result<()> {
     writeln!(out, "ANSWERED")?;
     put_tokens(out, tokens)?;
-    match &fault {
+    match fault {
         Some(fault) => put_fault(out, fault),
         None => Ok(()),
     }
 }
 
 /// Writes all tokens of the input and its fault, by one `yaml_scan_all_limit`.
-pub fn scan_all(rt: &HostRuntime, setting: yaml_encoding_t, limit: u32) -> io::Result<()>
-    requires least { 1 ≤ limit }
-    requires most { limit ≤ MOST_KEY_LIMIT }
+pub fn scan_all(rt: &HostRuntime, start: start_t) -> io::Result<()>
+    requires least { 1 ≤ start.limit }
+    requires most { start.limit ≤ MOST_KEY_LIMIT }
 {
-    let mut room = [0u8; MOST];
-    let input = read_input(rt, &mut room)?;
     let mut out = rt.stdout();
-    match yaml_scan_all_limit(rt.alloc(), input, setting, limit) {
-        Ok((tokens, fault)) => put_listed(&mut out, &tokens, fault),
+    match yaml_scan_all_limit(rt.alloc(), start.input, start.setting, start.limit) {
+        Ok((tokens, fault)) => put_listed(&mut out, &tokens, &fault),
         Err(_) => writeln!(out, "REFUSED"),
     }
 }
@@ -389,9 +414,7 @@ fn put_text(out: &mut impl Write, text: &yaml_text_t) -> io::Result<()> {
 }
 
 /// Writes the encoding and the bytes of the text of the input, or its fault, by one `yaml_decode`.
-pub fn decode(rt: &HostRuntime, setting: yaml_encoding_t) -> io::Result<()> {
-    let mut room = [0u8; MOST];
-    let input = read_input(rt, &mut room)?;
+pub fn decode(rt: &HostRuntime, input: &[u8], setting: yaml_encoding_t) -> io::Result<()> {
     let mut out = rt.stdout();
     match yaml_decode(rt.alloc(), input, setting) {
         Ok(text) => put_text(&mut out, &text),
@@ -426,9 +449,7 @@ fn put_front(out: &mut impl Write, alloc: Global, text: &yaml_text_t) -> io::Res
 }
 
 /// Decodes the input, and writes the lexeme at the front of its text.
-pub fn read_front(rt: &HostRuntime, setting: yaml_encoding_t) -> io::Result<()> {
-    let mut room = [0u8; MOST];
-    let input = read_input(rt, &mut room)?;
+pub fn read_front(rt: &HostRuntime, input: &[u8], setting: yaml_encoding_t) -> io::Result<()> {
     let mut out = rt.stdout();
     match yaml_decode(rt.alloc(), input, setting) {
         Ok(text) => put_front(&mut out, rt.alloc(), &text),
@@ -447,9 +468,7 @@ fn put_new_state(
 }
 
 /// Makes the calls that take no memory: a new parser, its state, decoding of UTF-8, and what [`put_places`] makes.
-pub fn call_bare(rt: &HostRuntime, setting: yaml_encoding_t) -> io::Result<()> {
-    let mut room = [0u8; MOST];
-    let input = read_input(rt, &mut room)?;
+pub fn call_bare(rt: &HostRuntime, input: &[u8], setting: yaml_encoding_t) -> io::Result<()> {
     let mut out = rt.stdout();
     put_new_state(&mut out, rt.alloc(), input, setting)?;
     match yaml_decode(rt.alloc(), input, setting) {
