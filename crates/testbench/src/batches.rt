@@ -160,11 +160,16 @@ fn give_batch(
     Ok(returned)
 }
 
-/// Makes one call with a sink of a room. Writes the tokens that went there, what was returned, and the state of the
-/// session. Returns whether the session is over.
-fn take_batch(out: &mut impl Write, parser: &mut yaml_parser_t, room: room_t) -> io::Result<bool> {
+/// Makes one call with a sink of a room. Writes the tokens that went there, and what was returned. Returns whether the
+/// session is over.
+fn put_batch(out: &mut impl Write, parser: &mut yaml_parser_t, room: room_t) -> io::Result<bool> {
     let returned = give_batch(out, parser, room)?;
-    let over = put_returned(out, &returned)?;
+    put_returned(out, &returned)
+}
+
+/// Takes a batch as [`put_batch`] does, and writes the state of the session.
+fn take_batch(out: &mut impl Write, parser: &mut yaml_parser_t, room: room_t) -> io::Result<bool> {
+    let over = put_batch(out, parser, room)?;
     put_state(out, parser)?;
     Ok(over)
 }

@@ -70,9 +70,9 @@ use std::io::{BufRead, BufReader, BufWriter, Read, Write};
 use std::{env, io};
 use words::word_at;
 
-/// Writes the answer to a line.
-fn put_answer(out: &mut impl Write, alloc: Global, line: &str) -> io::Result<()> {
-    let mut text = answer(alloc, line)?;
+/// Writes the answer to a line, if one was read.
+fn put_answer(out: &mut impl Write, alloc: Global, line: io::Result<String>) -> io::Result<()> {
+    let mut text = answer(alloc, line?.as_str())?;
     text.push_str("\n")?;
     out.write_all(text.as_bytes())
 }
@@ -81,7 +81,7 @@ fn put_answer(out: &mut impl Write, alloc: Global, line: &str) -> io::Result<()>
 fn put_answers(out: &mut impl Write, rt: &HostRuntime) -> io::Result<()> {
     let alloc = rt.alloc();
     for line in BufReader::new(alloc, rt.reader())?.lines(alloc) {
-        put_answer(out, alloc, line?.as_str())?;
+        put_answer(out, alloc, line)?;
     }
     Ok(())
 }

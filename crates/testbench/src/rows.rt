@@ -1,6 +1,10 @@
 //! Calls on many inputs, one input after the other.
+ghost use Rattle.std.specs.Prelude.{◌≤◌};
 
-use crate::session::{call_of, checked_limit, checked_setting, make_call, wrong_words};
+use crate::session::{
+    MOST_KEY_LIMIT, call_of, checked_limit, checked_setting, make_call, parser_of, start_t,
+    wrong_words,
+};
 use crate::words::bytes_of;
 use std::alloc::Global;
 use std::io;
@@ -20,19 +24,33 @@ fn checked_bytes(alloc: Global, word: &str) -> io::Result<Vec<u8>> {
     bytes_of(alloc, word)?.ok_or(wrong_words())
 }
 
+/// Makes the calls of a word on a new parser, and writes the answers and an empty line.
+fn answer_start(alloc: Global, out: &mut impl Write, start: start_t, word: &str) -> io::Result<()>
+    requires least { 1 ≤ start.limit }
+    requires most { start.limit ≤ MOST_KEY_LIMIT }
+{
+    answer_calls(out, &mut parser_of(alloc, start), word)
+}
+
 /// Makes the calls of the words `ENC LIMIT WORD INPUT`, and writes the answers and an empty line.
 fn answer_words(alloc: Global, out: &mut impl Write, words: &[&str]) -> io::Result<()> {
     let [setting, limit, word, input] = words else {
         return Err(wrong_words());
     };
     let (setting, limit) = (checked_setting(setting)?, checked_limit(limit)?);
-    let input = checked_bytes(alloc, input)?;
-    let mut parser = yaml_parser_t::with_key_limit(alloc, &input, setting, limit);
-    answer_calls(out, &mut parser, word)
+    let bytes = checked_bytes(alloc, input)?;
+    let input = bytes.as_slice();
+    let start = start_t {
+        input,
+        setting,
+        limit,
+    };
+    answer_start(alloc, out, start, word)
 }
 
-/// Makes the calls of a line `ENC LIMIT WORD INPUT`, and writes the answers and an empty line.
-fn answer_row(alloc: Global, out: &mut impl Write, line: &str) -> io::Result<()> {
+/// Makes the calls of a line `ENC LIMIT WORD INPUT`, if one was read, and writes the answers and an empty line.
+fn answer_row(alloc: Global, out: &mut impl Write, line: io::Result<String>) -> io::Result<()> {
+    let line = line?;
     let words: Vec<&str> = line.split(' ').collect(alloc)?;
     answer_words(alloc, out, words.as_slice())
 }
@@ -41,7 +59,7 @@ fn answer_row(alloc: Global, out: &mut impl Write, line: &str) -> io::Result<()>
 fn answer_each(out: &mut impl Write, rt: &HostRuntime) -> io::Result<()> {
     let alloc = rt.alloc();
     for line in BufReader::new(alloc, rt.reader())?.lines(alloc) {
-        answer_row(alloc, out, line?.as_str())?;
+        answer_row(alloc, out, line)?;
     }
     Ok(())
 }

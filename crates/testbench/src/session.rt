@@ -105,13 +105,23 @@ fn put_marks(out: &mut impl Write, first: yaml_mark_t, second: yaml_mark_t) -> i
     put_mark(out, second)
 }
 
+/// Writes the marks of a token or a lexeme, what it says, and the end of the line.
+fn put_rest(
+    out: &mut impl Write,
+    start: yaml_mark_t,
+    end: yaml_mark_t,
+    data: &unnamed_yaml_token_t_data,
+) -> io::Result<()> {
+    put_marks(out, start, end)?;
+    put_data(out, data)?;
+    writeln!(out)
+}
+
 /// Writes the line of a token.
 pub fn put_token(out: &mut impl Write, token: &yaml_token_t) -> io::Result<()> {
     let kind = token.type_();
     write!(out, "TOKEN {kind:?}")?;
-    put_marks(out, token.start_mark, token.end_mark)?;
-    put_data(out, &token.token_data)?;
-    writeln!(out)
+    put_rest(out, token.start_mark, token.end_mark, &token.token_data)
 }
 
 /// Writes the kind of a fault, and the offset and the value of what is wrong with an input that is no text.
@@ -425,9 +435,7 @@ pub fn decode(rt: &HostRuntime, input: &[u8], setting: yaml_encoding_t) -> io::R
 /// Writes the marks of a lexeme, and what it says.
 fn put_lexeme(out: &mut impl Write, lexeme: &yaml_lexeme_t) -> io::Result<()> {
     write!(out, "LEXEME")?;
-    put_marks(out, lexeme.start_mark, lexeme.end_mark)?;
-    put_data(out, &lexeme.token_data)?;
-    writeln!(out)
+    put_rest(out, lexeme.start_mark, lexeme.end_mark, &lexeme.token_data)
 }
 
 /// Writes the lexeme at the front of a text, outside of flow and with no level open, or its fault.
