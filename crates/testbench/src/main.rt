@@ -63,32 +63,54 @@ use ask::answer;
 use commands::list_session;
 use count::count;
 use measure::{measure, task_of, work_t};
-use rows::answer_rows;
+use rows::answer_row;
 use session::{limit_or_usual, wrong_words};
 use std::alloc::Global;
 use std::io::{BufRead, BufReader, BufWriter, Read, Write};
 use std::{env, io};
 use words::word_at;
 
-/// Writes the answer to a line, if one was read.
-fn put_answer(out: &mut impl Write, alloc: Global, line: io::Result<String>) -> io::Result<()> {
-    let mut text = answer(alloc, line?.as_str())?;
+/// What each line of the input is: a question, or calls on an input of its own.
+#[derive(Clone, Copy)]
+enum lines_t {
+    QUESTIONS,
+    ROWS,
+}
+
+/// Writes the answer to a question.
+fn put_answer(alloc: Global, out: &mut impl Write, line: &str) -> io::Result<()> {
+    let mut text = answer(alloc, line)?;
     text.push_str("\n")?;
     out.write_all(text.as_bytes())
 }
 
+/// Writes the answer to a line, if one was read.
+fn answer_line(
+    alloc: Global,
+    out: &mut impl Write,
+    lines: lines_t,
+    line: io::Result<String>,
+) -> io::Result<()> {
+    let line = line?;
+    match lines {
+        lines_t::QUESTIONS => put_answer(alloc, out, line.as_str()),
+        lines_t::ROWS => answer_row(alloc, out, line.as_str()),
+    }
+}
+
 /// Writes the answer to each line of the input.
-fn put_answers(out: &mut impl Write, rt: &HostRuntime) -> io::Result<()> {
+fn answer_each(rt: &HostRuntime, out: &mut impl Write, lines: lines_t) -> io::Result<()> {
     let alloc = rt.alloc();
     for line in BufReader::new(alloc, rt.reader())?.lines(alloc) {
-        put_answer(out, alloc, line)?;
+        answer_line(alloc, out, lines, line)?;
     }
     Ok(())
 }
 
-fn answer_lines(rt: &HostRuntime) -> io::Result<()> {
+/// Answers the lines of the input.
+fn answer_lines(rt: &HostRuntime, lines: lines_t) -> io::Result<()> {
     let mut out = BufWriter::new(rt.alloc(), io::writer(rt))?;
-    put_answers(&mut out, rt)?;
+    answer_each(rt, &mut out, lines)?;
     out.flush()
 }
 
@@ -112,12 +134,12 @@ fn count_input(rt: &HostRuntime, words: &[String]) -> io::Result<()> {
 /// Does what the words ask for.
 fn run(rt: &HostRuntime, words: &[String]) -> io::Result<()> {
     let Some(command) = words.first() else {
-        return answer_lines(rt);
+        return answer_lines(rt, lines_t::QUESTIONS);
     };
     match command.as_str() {
         "measure" => measure_input(rt, words),
         "count" => count_input(rt, words),
-        "rows" => answer_rows(rt),
+        "rows" => answer_lines(rt, lines_t::ROWS),
         _ => list_session(rt, words),
     }
 }

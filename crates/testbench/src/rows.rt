@@ -8,7 +8,7 @@ use crate::session::{
 use crate::words::bytes_of;
 use std::alloc::Global;
 use std::io;
-use std::io::{BufRead, BufReader, BufWriter, Write};
+use std::io::Write;
 use yaml_scan::yaml_parser_t;
 
 /// Makes the calls of a word on a parser, and writes the answers and an empty line.
@@ -48,30 +48,14 @@ fn answer_words(alloc: Global, out: &mut impl Write, words: &[&str]) -> io::Resu
     answer_start(alloc, out, start, word)
 }
 
-/// Makes the calls of a line `ENC LIMIT WORD INPUT`, if one was read, and writes the answers and an empty line.
-fn answer_row(alloc: Global, out: &mut impl Write, line: io::Result<String>) -> io::Result<()> {
-    let line = line?;
-    let words: Vec<&str> = line.split(' ').collect(alloc)?;
-    answer_words(alloc, out, words.as_slice())
-}
-
-/// Makes the calls of each line of the input, and writes the answers.
-fn answer_each(out: &mut impl Write, rt: &HostRuntime) -> io::Result<()> {
-    let alloc = rt.alloc();
-    for line in BufReader::new(alloc, rt.reader())?.lines(alloc) {
-        answer_row(alloc, out, line)?;
-    }
-    Ok(())
-}
-
-/// Makes the calls of each line of the input, one by one, on a parser of its own.
+/// Makes the calls of a line `ENC LIMIT WORD INPUT`, one by one, on a parser of its own. Writes the answers and an
+/// empty line.
 ///
 /// # Errors
 ///
-/// `InvalidInput` if a line is no `ENC LIMIT WORD INPUT`, with the input in hexadecimal, and otherwise the error of the
-/// read, the write or the request for memory that failed.
-pub fn answer_rows(rt: &HostRuntime) -> io::Result<()> {
-    let mut out = BufWriter::new(rt.alloc(), io::writer(rt))?;
-    answer_each(&mut out, rt)?;
-    out.flush()
+/// `InvalidInput` if the line is no `ENC LIMIT WORD INPUT`, with the input in hexadecimal, and otherwise the error of
+/// the write or the request for memory that failed.
+pub fn answer_row(alloc: Global, out: &mut impl Write, line: &str) -> io::Result<()> {
+    let words: Vec<&str> = line.split(' ').collect(alloc)?;
+    answer_words(alloc, out, words.as_slice())
 }
