@@ -4,9 +4,7 @@
 //! calls.
 ghost use Rattle.std.specs.Prelude.{◌≤◌};
 
-use crate::session::{
-    MOST_KEY_LIMIT, parser_of, put_fault, put_state, put_token, start_t, wrong_words,
-};
+use crate::session::{MOST_KEY_LIMIT, put_fault, put_state, put_token, start_t, wrong_words};
 use crate::words::word_at;
 use std::alloc::{AllocError, Global};
 use std::io;
@@ -188,17 +186,18 @@ fn take_each(out: &mut impl Write, parser: &mut yaml_parser_t, room: room_t) -> 
     Ok(())
 }
 
-/// Takes all tokens of the input in batches. Each goes to a sink of the room that the words say.
+/// Takes all tokens of a parser in batches. Each goes to a sink of the room that the words say.
 ///
 /// # Errors
 ///
 /// `InvalidInput` if the words are no room, and otherwise the error of the write that failed.
-pub fn take_batches(rt: &HostRuntime, start: start_t, words: &[String]) -> io::Result<()>
-    requires least { 1 ≤ start.limit }
-    requires most { start.limit ≤ MOST_KEY_LIMIT }
-{
+pub fn take_batches(
+    out: &mut impl Write,
+    parser: &mut yaml_parser_t,
+    words: &[String],
+) -> io::Result<()> {
     let room = room_of(words).ok_or(wrong_words())?;
-    take_each(&mut rt.stdout(), &mut parser_of(rt.alloc(), start), room)
+    take_each(out, parser, room)
 }
 
 /// Writes the fault that all tokens were given with, or that there is none, or that memory was refused.

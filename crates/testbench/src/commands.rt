@@ -3,12 +3,12 @@ ghost use Rattle.std.specs.Prelude.{◌≤◌};
 
 use crate::batches::{give_all, take_batches};
 use crate::session::{
-    MOST, MOST_KEY_LIMIT, call_bare, checked_limit, checked_setting, decode, make_calls,
+    MOST, MOST_KEY_LIMIT, call_bare, checked_limit, checked_setting, decode, make_calls, parser_of,
     read_front, read_input, run_words, scan_all, start_t, wrong_words,
 };
 use crate::words::word_at;
 use std::io;
-use yaml_scan::yaml_encoding_t;
+use yaml_scan::{yaml_encoding_t, yaml_parser_t};
 
 /// Runs a command that has an encoding setting alone on an input.
 fn list_text(
@@ -24,17 +24,29 @@ fn list_text(
     }
 }
 
+/// Runs a command that makes calls on a parser.
+fn call_parser(
+    rt: &HostRuntime,
+    command: &str,
+    parser: &mut yaml_parser_t,
+    words: &[String],
+) -> io::Result<()> {
+    match command {
+        "each" => make_calls(&mut rt.stdout(), parser, word_at(words, 0)),
+        "batches" => take_batches(&mut rt.stdout(), parser, words),
+        _ => Err(wrong_words()),
+    }
+}
+
 /// Runs a command that has a key limit and further words.
 fn list_tokens(rt: &HostRuntime, command: &str, start: start_t, words: &[String]) -> io::Result<()>
     requires least { 1 ≤ start.limit }
     requires most { start.limit ≤ MOST_KEY_LIMIT }
 {
     match command {
-        "each" => make_calls(rt, start, word_at(words, 0)),
         "all" => scan_all(rt, start),
-        "batches" => take_batches(rt, start, words),
         "to" => give_all(rt, start, words),
-        _ => Err(wrong_words()),
+        _ => call_parser(rt, command, &mut parser_of(rt.alloc(), start), words),
     }
 }
 

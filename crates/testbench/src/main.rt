@@ -48,6 +48,8 @@
 //! `-` if there is no limit. They may be left out, and then there is none either.
 #![tactic(auto)]
 
+ghost use Rattle.std.specs.Prelude.{◌≤◌};
+
 mod ask;
 mod bare;
 mod batches;
@@ -64,7 +66,7 @@ use commands::list_session;
 use count::count;
 use measure::{measure, task_of, work_t};
 use rows::answer_row;
-use session::{limit_or_usual, wrong_words};
+use session::{MOST_KEY_LIMIT, limit_or_usual, wrong_words};
 use std::alloc::Global;
 use std::io::{BufRead, BufReader, BufWriter, Read, Write};
 use std::{env, io};
@@ -114,20 +116,31 @@ fn answer_lines(rt: &HostRuntime, lines: lines_t) -> io::Result<()> {
     out.flush()
 }
 
-fn measure_input(rt: &HostRuntime, words: &[String]) -> io::Result<()> {
-    let task = task_of(word_at(words, 1));
-    let limit = limit_or_usual(word_at(words, 2)).ok_or(wrong_words())?;
-    let mut input = Vec::new(rt.alloc());
-    rt.reader().read_to_end(&mut input)?;
-    let text = measure(rt, &input, work_t { task, limit })??;
-    io::writer(rt).write_all(text.as_bytes())
+/// What is told of an input: how many tokens it has, for `count WAY`, or how long a task takes, for `measure TASK`.
+fn told_of(rt: &HostRuntime, input: &[u8], words: &[String], limit: u32) -> io::Result<String>
+    requires least { 1 ≤ limit }
+    requires most { limit ≤ MOST_KEY_LIMIT }
+{
+    let word = word_at(words, 1);
+    match word_at(words, 0) {
+        "count" => count(rt.alloc(), input, word, limit),
+        _ => Ok(measure(
+            rt,
+            input,
+            work_t {
+                task: task_of(word),
+                limit,
+            },
+        )??),
+    }
 }
 
-fn count_input(rt: &HostRuntime, words: &[String]) -> io::Result<()> {
+/// Reads the input, and writes what is told of it.
+fn tell_input(rt: &HostRuntime, words: &[String]) -> io::Result<()> {
     let limit = limit_or_usual(word_at(words, 2)).ok_or(wrong_words())?;
     let mut input = Vec::new(rt.alloc());
     rt.reader().read_to_end(&mut input)?;
-    let text = count(rt.alloc(), &input, word_at(words, 1), limit)?;
+    let text = told_of(rt, &input, words, limit)?;
     io::writer(rt).write_all(text.as_bytes())
 }
 
@@ -137,8 +150,7 @@ fn run(rt: &HostRuntime, words: &[String]) -> io::Result<()> {
         return answer_lines(rt, lines_t::QUESTIONS);
     };
     match command.as_str() {
-        "measure" => measure_input(rt, words),
-        "count" => count_input(rt, words),
+        "measure" | "count" => tell_input(rt, words),
         "rows" => answer_lines(rt, lines_t::ROWS),
         _ => list_session(rt, words),
     }

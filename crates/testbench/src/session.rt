@@ -366,20 +366,12 @@ fn make_call_of(out: &mut impl Write, parser: &mut yaml_parser_t, letter: u8) ->
     put_state(out, parser)
 }
 
-/// Makes the calls of a word one by one, as [`make_call_of`] does.
-fn make_calls_of(out: &mut impl Write, parser: &mut yaml_parser_t, word: &str) -> io::Result<()> {
+/// Makes the calls of a word one by one on a parser, and writes the state of the session after each.
+pub fn make_calls(out: &mut impl Write, parser: &mut yaml_parser_t, word: &str) -> io::Result<()> {
     for letter in word.bytes() {
         make_call_of(out, parser, letter)?;
     }
     Ok(())
-}
-
-/// Makes the calls of a word one by one on a parser, and writes the state of the session after each.
-pub fn make_calls(rt: &HostRuntime, start: start_t, word: &str) -> io::Result<()>
-    requires least { 1 ≤ start.limit }
-    requires most { start.limit ≤ MOST_KEY_LIMIT }
-{
-    make_calls_of(&mut rt.stdout(), &mut parser_of(rt.alloc(), start), word)
 }
 
 fn put_tokens(out: &mut impl Write, tokens: &[yaml_token_t]) -> io::Result<()> {
@@ -438,6 +430,14 @@ fn put_lexeme(out: &mut impl Write, lexeme: &yaml_lexeme_t) -> io::Result<()> {
     put_rest(out, lexeme.start_mark, lexeme.end_mark, &lexeme.token_data)
 }
 
+/// Writes a lexeme that was read, or the fault in its place.
+fn put_read(out: &mut impl Write, read: &Result<yaml_lexeme_t, yaml_fault_t>) -> io::Result<()> {
+    match read {
+        Ok(lexeme) => put_lexeme(out, lexeme),
+        Err(fault) => put_fault(out, fault),
+    }
+}
+
 /// Writes the lexeme at the front of a text, outside of flow and with no level open, or its fault.
 fn put_front(out: &mut impl Write, alloc: Global, text: &yaml_text_t) -> io::Result<()> {
     let Some(at) = mark_at(text, 0) else {
@@ -450,10 +450,7 @@ fn put_front(out: &mut impl Write, alloc: Global, text: &yaml_text_t) -> io::Res
         depth: 0,
         level: None,
     };
-    match yaml_lexeme_at(alloc, text, at, kind, context) {
-        Ok(lexeme) => put_lexeme(out, &lexeme),
-        Err(fault) => put_fault(out, &fault),
-    }
+    put_read(out, &yaml_lexeme_at(alloc, text, at, kind, context))
 }
 
 /// Decodes the input, and writes the lexeme at the front of its text.
