@@ -84,40 +84,6 @@ fn is_within(text: &yaml_text_t, level: Option<u64>) -> bool
     }
 }
 
-/// The answer to the question of these words about the text.
-fn ask(alloc: Global, words: &[&str], text: &yaml_text_t) -> Result<Option<String>, AllocError> {
-    match words {
-        ["gap", in_flow, allowed, index, _] => {
-            let (Some(in_flow), Some(allowed)) = (flag_of(in_flow), flag_of(allowed)) else {
-                return Ok(None);
-            };
-            match mark_of(text, index) {
-                Some(at) => Ok(Some(ask_gap(alloc, text, at, around_t { in_flow, allowed })?)),
-                None => Ok(None),
-            }
-        }
-        ["kind", in_flow, index, _] => {
-            let (Some(in_flow), Some(at)) = (flag_of(in_flow), mark_of(text, index)) else {
-                return Ok(None);
-            };
-            Ok(Some(ask_kind(alloc, text, at, in_flow)?))
-        }
-        ["lex", depth, level, index, _] => {
-            let (Ok(depth), Some(level)) = (depth.parse(), level_of(level)) else {
-                return Ok(None);
-            };
-            if !is_within(text, level) {
-                return Ok(None);
-            }
-            match mark_of(text, index) {
-                Some(at) => Ok(Some(ask_lexeme(alloc, text, at, yaml_context_t { depth, level })?)),
-                None => Ok(None),
-            }
-        }
-        _ => Ok(None),
-    }
-}
-
 fn mark_of(text: &yaml_text_t, index: &str) -> Option<yaml_mark_t>
     ensures { IfSome result (λ mark. (n : ℕ) × IsMarkOf text.now.chars mark n) }
 {
@@ -127,22 +93,104 @@ fn mark_of(text: &yaml_text_t, index: &str) -> Option<yaml_mark_t>
     }
 }
 
+/// What a gap depends on besides the text, if the words are two flags.
+fn around_of(in_flow: &str, allowed: &str) -> Option<around_t> {
+    match (flag_of(in_flow), flag_of(allowed)) {
+        (Some(in_flow), Some(allowed)) => Some(around_t { in_flow, allowed }),
+        _ => None,
+    }
+}
+
+/// The flow depth and the level of two words, if the level is within the text.
+fn context_of(text: &yaml_text_t, depth: &str, level: &str) -> Option<yaml_context_t>
+    ensures { IfSome result (λ context. IfSome context.level (λ l. l ≤ length (utf8 text.now.chars))) }
+{
+    match (depth.parse(), level_of(level)) {
+        (Ok(depth), Some(level)) if is_within(text, level) => Some(yaml_context_t { depth, level }),
+        _ => None,
+    }
+}
+
+/// The answer to the words of a `gap` after the first, if they are such a question.
+fn answer_gap(
+    alloc: Global,
+    words: &[&str],
+    text: &yaml_text_t,
+) -> Result<Option<String>, AllocError> {
+    let [in_flow, allowed, index, _] = words else {
+        return Ok(None);
+    };
+    match (around_of(in_flow, allowed), mark_of(text, index)) {
+        (Some(around), Some(at)) => Ok(Some(ask_gap(alloc, text, at, around)?)),
+        _ => Ok(None),
+    }
+}
+
+/// The answer to the words of a `kind` after the first, if they are such a question.
+fn answer_kind(
+    alloc: Global,
+    words: &[&str],
+    text: &yaml_text_t,
+) -> Result<Option<String>, AllocError> {
+    let [in_flow, index, _] = words else {
+        return Ok(None);
+    };
+    match (flag_of(in_flow), mark_of(text, index)) {
+        (Some(in_flow), Some(at)) => Ok(Some(ask_kind(alloc, text, at, in_flow)?)),
+        _ => Ok(None),
+    }
+}
+
+/// The answer to the words of a `lex` after the first, if they are such a question.
+fn answer_lexeme(
+    alloc: Global,
+    words: &[&str],
+    text: &yaml_text_t,
+) -> Result<Option<String>, AllocError> {
+    let [depth, level, index, _] = words else {
+        return Ok(None);
+    };
+    match (context_of(text, depth, level), mark_of(text, index)) {
+        (Some(context), Some(at)) => Ok(Some(ask_lexeme(alloc, text, at, context)?)),
+        _ => Ok(None),
+    }
+}
+
+/// The answer to the question of these words about the text.
+fn ask(alloc: Global, words: &[&str], text: &yaml_text_t) -> Result<Option<String>, AllocError> {
+    match words {
+        ["gap", rest @ ..] => answer_gap(alloc, rest, text),
+        ["kind", rest @ ..] => answer_kind(alloc, rest, text),
+        ["lex", rest @ ..] => answer_lexeme(alloc, rest, text),
+        _ => Ok(None),
+    }
+}
+
+/// The mark of the end of a text, or `-` if it has none.
+fn show_end(alloc: Global, text: &yaml_text_t) -> Result<String, AllocError> {
+    match mark_at(text, text.bytes().len()) {
+        Some(end) => show_mark(alloc, end),
+        None => String::from_str(alloc, "-"),
+    }
+}
+
+/// The line of a text: its encoding, its bytes in UTF-8 and the mark of its end.
+fn show_text(alloc: Global, text: &yaml_text_t) -> Result<String, AllocError> {
+    let end = show_end(alloc, text)?;
+    let (encoding, bytes) = (text.encoding(), show_bytes(alloc, text.bytes())?);
+    format!(in alloc; "TEXT {encoding:?} {bytes} {end}")
+}
+
 /// What the input decodes to: the encoding, the text in UTF-8 and the mark of its end, or what is wrong with it.
 fn ask_decoded(
     alloc: Global,
     input: &[u8],
     setting: yaml_encoding_t,
 ) -> Result<String, AllocError> {
-    let text = match yaml_decode(alloc, input, setting) {
-        Ok(text) => text,
-        Err(fault) => return show_refusal(alloc, &fault),
-    };
-    let end = match mark_at(&text, text.bytes().len()) {
-        Some(end) => show_mark(alloc, end)?,
-        None => String::from_str(alloc, "-")?,
-    };
-    let (encoding, bytes) = (text.encoding(), show_bytes(alloc, text.bytes())?);
-    format!(in alloc; "TEXT {encoding:?} {bytes} {end}")
+    match yaml_decode(alloc, input, setting) {
+        Ok(text) => show_text(alloc, &text),
+        Err(fault) => show_refusal(alloc, &fault),
+    }
 }
 
 /// The answer to the question of these words, of which the last one spells the bytes.
@@ -159,17 +207,27 @@ fn ask_bytes(alloc: Global, words: &[&str], bytes: &[u8]) -> Result<Option<Strin
     }
 }
 
+/// The bytes that the last of the words spells, if it spells any.
+fn last_bytes(alloc: Global, words: &[&str]) -> Result<Option<Vec<u8>>, AllocError> {
+    match words.last() {
+        Some(word) => bytes_of(alloc, word),
+        None => Ok(None),
+    }
+}
+
+/// The answer to these words, if they are a question.
+fn answer_words(alloc: Global, words: &[&str]) -> Result<Option<String>, AllocError> {
+    match last_bytes(alloc, words)? {
+        Some(bytes) => ask_bytes(alloc, words, &bytes),
+        None => Ok(None),
+    }
+}
+
 /// The answer to a line.
 pub fn answer(alloc: Global, line: &str) -> Result<String, AllocError> {
     let words: Vec<&str> = line.split(' ').collect(alloc)?;
-    let bytes = match words.last() {
-        Some(word) => bytes_of(alloc, word)?,
-        None => None,
-    };
-    if let Some(bytes) = bytes {
-        if let Some(answer) = ask_bytes(alloc, &words, &bytes)? {
-            return Ok(answer);
-        }
+    match answer_words(alloc, &words)? {
+        Some(answer) => Ok(answer),
+        None => String::from_str(alloc, "?"),
     }
-    String::from_str(alloc, "?")
 }

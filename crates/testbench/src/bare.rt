@@ -94,9 +94,9 @@ fn put_flags(out: &mut impl Write, flags: &[bool]) -> io::Result<()> {
     Ok(())
 }
 
-/// Writes for each class whether it holds at an index, and the value of a digit and the width of a character there.
-fn put_classes(out: &mut impl Write, bytes: &[u8], at: usize) -> io::Result<()> {
-    let classes = [
+/// For each class whether it holds at an index.
+fn classes(bytes: &[u8], at: usize) -> [bool; 14] {
+    [
         IS_ALPHA(bytes, at),
         IS_DIGIT(bytes, at),
         IS_HEX(bytes, at),
@@ -111,8 +111,11 @@ fn put_classes(out: &mut impl Write, bytes: &[u8], at: usize) -> io::Result<()> 
         IS_CRLF(bytes, at),
         IS_BREAKZ(bytes, at),
         IS_BLANKZ(bytes, at),
-    ];
-    put_flags(out, &classes)?;
+    ]
+}
+
+/// The values of a digit and of a hexadecimal digit at an index, or -1 if none is there.
+fn digits(bytes: &[u8], at: usize) -> (i32, i32) {
     let digit = if IS_DIGIT(bytes, at) {
         AS_DIGIT(bytes, at)
     } else {
@@ -123,6 +126,13 @@ fn put_classes(out: &mut impl Write, bytes: &[u8], at: usize) -> io::Result<()> 
     } else {
         -1
     };
+    (digit, hex)
+}
+
+/// Writes for each class whether it holds at an index, and the value of a digit and the width of a character there.
+fn put_classes(out: &mut impl Write, bytes: &[u8], at: usize) -> io::Result<()> {
+    put_flags(out, &classes(bytes, at))?;
+    let (digit, hex) = digits(bytes, at);
     let width = WIDTH(bytes, at);
     writeln!(out, " {digit} {hex} {width}")
 }

@@ -4,16 +4,14 @@
 //! calls.
 ghost use Rattle.std.specs.Prelude.{◌≤◌};
 
-use crate::session::{
-    MOST, MOST_KEY_LIMIT, put_fault, put_state, put_token, read_input, wrong_words,
-};
+use crate::session::{MOST_KEY_LIMIT, put_fault, put_state, put_token, start_t, wrong_words};
 use crate::words::word_at;
 use std::alloc::{AllocError, Global};
 use std::io;
 use std::io::Write;
 use yaml_scan::{
-    unnamed_yaml_token_t_data, yaml_encoding_t, yaml_fault_t, yaml_parser_t, yaml_scan_next_to,
-    yaml_scan_to, yaml_token_sink_t, yaml_token_t,
+    unnamed_yaml_token_t_data, yaml_fault_t, yaml_parser_t, yaml_scan_next_to, yaml_scan_to,
+    yaml_token_sink_t, yaml_token_t,
 };
 
 /// How many calls are made after the one that returns the stream end or a fault.
@@ -144,50 +142,74 @@ fn put_returned(
     }
 }
 
-/// Makes one call with a sink of a room. Writes the tokens that went there, what was returned, and the state of the
-/// session. Returns whether the session is over.
-fn take_batch(out: &mut impl Write, parser: &mut yaml_parser_t, room: room_t) -> io::Result<bool> {
+/// Makes one call with a sink of a room. Writes the tokens that went there, and returns what the call returned.
+fn give_batch(
+    out: &mut impl Write,
+    parser: &mut yaml_parser_t,
+    room: room_t,
+) -> io::Result<Result<Option<yaml_token_t>, yaml_fault_t>> {
     let mut lister = lister_t {
-        out: &mut *out,
+        out,
         left: room,
         written: Ok(()),
     };
     let returned = yaml_scan_next_to(parser, &mut lister);
     lister.written?;
-    let over = put_returned(out, &returned)?;
+    Ok(returned)
+}
+
+/// Makes one call with a sink of a room. Writes the tokens that went there, and what was returned. Returns whether the
+/// session is over.
+fn put_batch(out: &mut impl Write, parser: &mut yaml_parser_t, room: room_t) -> io::Result<bool> {
+    let returned = give_batch(out, parser, room)?;
+    put_returned(out, &returned)
+}
+
+/// Takes a batch as [`put_batch`] does, and writes the state of the session.
+fn take_batch(out: &mut impl Write, parser: &mut yaml_parser_t, room: room_t) -> io::Result<bool> {
+    let over = put_batch(out, parser, room)?;
     put_state(out, parser)?;
     Ok(over)
 }
 
-/// Takes all tokens of the input in batches. Each goes to a sink of the room that the words say.
-///
-/// # Errors
-///
-/// `InvalidInput` if the words are no room, and otherwise the error of the read or the write that failed.
-pub fn take_batches(
-    rt: &HostRuntime,
-    setting: yaml_encoding_t,
-    limit: u32,
-    words: &[String],
-) -> io::Result<()>
-    requires least { 1 ≤ limit }
-    requires most { limit ≤ MOST_KEY_LIMIT }
-{
-    let room = room_of(words).ok_or(wrong_words())?;
-    let mut bytes = [0u8; MOST];
-    let count = read_input(&mut rt.stdin(), &mut bytes)?;
-    let mut out = rt.stdout();
-    let mut parser = yaml_parser_t::with_key_limit(rt.alloc(), &bytes[..count], setting, limit);
+/// Takes batches, each with a sink of a room, until the session is over and [`CALLS_PAST_THE_END`] more calls are made.
+fn take_each(out: &mut impl Write, parser: &mut yaml_parser_t, room: room_t) -> io::Result<()> {
     let mut calls_over: u32 = 0;
     'calls: for _ in 0..u64::MAX {
         if calls_over > CALLS_PAST_THE_END {
             break;
         }
-        if take_batch(&mut out, &mut parser, room)? {
+        if take_batch(out, parser, room)? {
             calls_over += 1;
         }
     }
     Ok(())
+}
+
+/// Takes all tokens of a parser in batches. Each goes to a sink of the room that the words say.
+///
+/// # Errors
+///
+/// `InvalidInput` if the words are no room, and otherwise the error of the write that failed.
+pub fn take_batches(
+    out: &mut impl Write,
+    parser: &mut yaml_parser_t,
+    words: &[String],
+) -> io::Result<()> {
+    let room = room_of(words).ok_or(wrong_words())?;
+    take_each(out, parser, room)
+}
+
+/// Writes the fault that all tokens were given with, or that there is none, or that memory was refused.
+fn put_end(
+    out: &mut impl Write,
+    given: &Result<Option<yaml_fault_t>, AllocError>,
+) -> io::Result<()> {
+    match given {
+        Ok(Some(fault)) => put_fault(out, fault),
+        Ok(None) => writeln!(out, "ENDED"),
+        Err(_) => writeln!(out, "REFUSED"),
+    }
 }
 
 /// Gives all tokens of the input to a sink of the room that the words say, by one `yaml_scan_to`. Then it writes the
@@ -195,30 +217,25 @@ pub fn take_batches(
 ///
 /// # Errors
 ///
-/// `InvalidInput` if the words are no room, and otherwise the error of the read or the write that failed.
-pub fn give_all(
-    rt: &HostRuntime,
-    setting: yaml_encoding_t,
-    limit: u32,
-    words: &[String],
-) -> io::Result<()>
-    requires least { 1 ≤ limit }
-    requires most { limit ≤ MOST_KEY_LIMIT }
+/// `InvalidInput` if the words are no room, and otherwise the error of the write that failed.
+pub fn give_all(rt: &HostRuntime, start: start_t, words: &[String]) -> io::Result<()>
+    requires least { 1 ≤ start.limit }
+    requires most { start.limit ≤ MOST_KEY_LIMIT }
 {
     let left = room_of(words).ok_or(wrong_words())?;
-    let mut bytes = [0u8; MOST];
-    let count = read_input(&mut rt.stdin(), &mut bytes)?;
     let mut out = rt.stdout();
     let mut lister = lister_t {
         out: &mut out,
         left,
         written: Ok(()),
     };
-    let given = yaml_scan_to(rt.alloc(), &bytes[..count], setting, limit, &mut lister);
+    let given = yaml_scan_to(
+        rt.alloc(),
+        start.input,
+        start.setting,
+        start.limit,
+        &mut lister,
+    );
     lister.written?;
-    match given {
-        Ok(Some(fault)) => put_fault(&mut out, &fault),
-        Ok(None) => writeln!(out, "ENDED"),
-        Err(_) => writeln!(out, "REFUSED"),
-    }
+    put_end(&mut out, &given)
 }

@@ -182,6 +182,52 @@ fn by_batches(parser: &mut yaml_parser_t, room: u128) -> count_t {
     tally.count
 }
 
+/// Counts the tokens of a parser in the way of a word.
+///
+/// # Errors
+///
+/// `InvalidInput` if the word is no way of a parser, or the error of a request for memory that failed outside of the
+/// scanner.
+fn count_by(alloc: Global, parser: &mut yaml_parser_t, way: &str) -> io::Result<count_t> {
+    match way {
+        "scans" => Ok(by_scans(parser)),
+        "skips" => Ok(by_skips(parser)),
+        "lists" => Ok(by_lists(alloc, parser)?),
+        "batches" => Ok(by_batches(parser, MANY as u128)),
+        "returned" => Ok(by_batches(parser, 0)),
+        _ => Err(wrong_words()),
+    }
+}
+
+/// Counts the tokens of an input in the way of a word: with a parser, or for `sink` with one call.
+///
+/// # Errors
+///
+/// As [`count_by`].
+fn counted(alloc: Global, input: &[u8], way: &str, limit: u32) -> io::Result<count_t>
+    requires least { 1 ≤ limit }
+    requires most { limit ≤ MOST_KEY_LIMIT }
+{
+    let any = yaml_encoding_t::YAML_ANY_ENCODING;
+    if way == "sink" {
+        return Ok(by_sink(alloc, input, any, limit)?);
+    }
+    let mut parser = yaml_parser_t::with_key_limit(alloc, input, any, limit);
+    count_by(alloc, &mut parser, way)
+}
+
+/// The line of a count: how many tokens there are, and the kind of the fault, or `-` for none.
+fn line_of(alloc: Global, count: &count_t) -> io::Result<String> {
+    let tokens = count.tokens;
+    Ok(match &count.fault {
+        Some(fault) => {
+            let error = fault.error;
+            format!(in alloc; "{tokens} {error}\n")?
+        }
+        None => format!(in alloc; "{tokens} -\n")?,
+    })
+}
+
 /// Counts the tokens of an input in the way of a word: `scans`, `skips`, `lists`, `sink`, `batches` or `returned`.
 ///
 /// Returns a line: how many there are up to the stream end or the fault, and the kind of the fault, or `-` for none.
@@ -193,23 +239,5 @@ pub fn count(alloc: Global, input: &[u8], way: &str, limit: u32) -> io::Result<S
     requires least { 1 ≤ limit }
     requires most { limit ≤ MOST_KEY_LIMIT }
 {
-    let any = yaml_encoding_t::YAML_ANY_ENCODING;
-    let mut parser = yaml_parser_t::with_key_limit(alloc, input, any, limit);
-    let count = match way {
-        "scans" => by_scans(&mut parser),
-        "skips" => by_skips(&mut parser),
-        "lists" => by_lists(alloc, &mut parser)?,
-        "sink" => by_sink(alloc, input, any, limit)?,
-        "batches" => by_batches(&mut parser, MANY as u128),
-        "returned" => by_batches(&mut parser, 0),
-        _ => return Err(wrong_words()),
-    };
-    let tokens = count.tokens;
-    Ok(match count.fault {
-        Some(fault) => {
-            let error = fault.error;
-            format!(in alloc; "{tokens} {error}\n")?
-        }
-        None => format!(in alloc; "{tokens} -\n")?,
-    })
+    line_of(alloc, &counted(alloc, input, way, limit)?)
 }

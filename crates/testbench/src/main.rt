@@ -48,6 +48,8 @@
 //! `-` if there is no limit. They may be left out, and then there is none either.
 #![tactic(auto)]
 
+ghost use Rattle.std.specs.Prelude.{◌≤◌};
+
 mod ask;
 mod bare;
 mod batches;
@@ -63,47 +65,98 @@ use ask::answer;
 use commands::list_session;
 use count::count;
 use measure::{measure, task_of, work_t};
-use rows::answer_rows;
-use session::{limit_or_usual, wrong_words};
+use rows::answer_row;
+use session::{MOST_KEY_LIMIT, limit_or_usual, wrong_words};
+use std::alloc::Global;
 use std::io::{BufRead, BufReader, BufWriter, Read, Write};
 use std::{env, io};
 use words::word_at;
 
-fn answer_lines(rt: &HostRuntime) -> io::Result<()> {
-    let alloc = rt.alloc();
-    let mut out = BufWriter::new(alloc, io::writer(rt))?;
-    for line in BufReader::new(alloc, rt.reader())?.lines(alloc) {
-        let mut text = answer(alloc, line?.as_str())?;
-        text.push_str("\n")?;
-        out.write_all(text.as_bytes())?;
+/// What each line of the input is: a question, or calls on an input of its own.
+#[derive(Clone, Copy)]
+enum lines_t {
+    QUESTIONS,
+    ROWS,
+}
+
+/// Writes the answer to a question.
+fn put_answer(alloc: Global, out: &mut impl Write, line: &str) -> io::Result<()> {
+    let mut text = answer(alloc, line)?;
+    text.push_str("\n")?;
+    out.write_all(text.as_bytes())
+}
+
+/// Writes the answer to a line, if one was read.
+fn answer_line(
+    alloc: Global,
+    out: &mut impl Write,
+    lines: lines_t,
+    line: io::Result<String>,
+) -> io::Result<()> {
+    let line = line?;
+    match lines {
+        lines_t::QUESTIONS => put_answer(alloc, out, line.as_str()),
+        lines_t::ROWS => answer_row(alloc, out, line.as_str()),
     }
+}
+
+/// Writes the answer to each line of the input.
+fn answer_each(rt: &HostRuntime, out: &mut impl Write, lines: lines_t) -> io::Result<()> {
+    let alloc = rt.alloc();
+    for line in BufReader::new(alloc, rt.reader())?.lines(alloc) {
+        answer_line(alloc, out, lines, line)?;
+    }
+    Ok(())
+}
+
+/// Answers the lines of the input.
+fn answer_lines(rt: &HostRuntime, lines: lines_t) -> io::Result<()> {
+    let mut out = BufWriter::new(rt.alloc(), io::writer(rt))?;
+    answer_each(rt, &mut out, lines)?;
     out.flush()
 }
 
-fn measure_input(rt: &HostRuntime, words: &[String]) -> io::Result<()> {
-    let task = task_of(word_at(words, 1));
+/// What is told of an input: how many tokens it has, for `count WAY`, or how long a task takes, for `measure TASK`.
+fn told_of(rt: &HostRuntime, input: &[u8], words: &[String], limit: u32) -> io::Result<String>
+    requires least { 1 ≤ limit }
+    requires most { limit ≤ MOST_KEY_LIMIT }
+{
+    let word = word_at(words, 1);
+    match word_at(words, 0) {
+        "count" => count(rt.alloc(), input, word, limit),
+        _ => Ok(measure(
+            rt,
+            input,
+            work_t {
+                task: task_of(word),
+                limit,
+            },
+        )??),
+    }
+}
+
+/// Reads the input, and writes what is told of it.
+fn tell_input(rt: &HostRuntime, words: &[String]) -> io::Result<()> {
     let limit = limit_or_usual(word_at(words, 2)).ok_or(wrong_words())?;
     let mut input = Vec::new(rt.alloc());
     rt.reader().read_to_end(&mut input)?;
-    let text = measure(rt, &input, work_t { task, limit })??;
+    let text = told_of(rt, &input, words, limit)?;
     io::writer(rt).write_all(text.as_bytes())
 }
 
-fn count_input(rt: &HostRuntime, words: &[String]) -> io::Result<()> {
-    let limit = limit_or_usual(word_at(words, 2)).ok_or(wrong_words())?;
-    let mut input = Vec::new(rt.alloc());
-    rt.reader().read_to_end(&mut input)?;
-    let text = count(rt.alloc(), &input, word_at(words, 1), limit)?;
-    io::writer(rt).write_all(text.as_bytes())
+/// Does what the words ask for.
+fn run(rt: &HostRuntime, words: &[String]) -> io::Result<()> {
+    let Some(command) = words.first() else {
+        return answer_lines(rt, lines_t::QUESTIONS);
+    };
+    match command.as_str() {
+        "measure" | "count" => tell_input(rt, words),
+        "rows" => answer_lines(rt, lines_t::ROWS),
+        _ => list_session(rt, words),
+    }
 }
 
 fn main(rt: HostRuntime) -> io::Result<()> {
     let words: Vec<String> = env::args(&rt)?.skip(1).collect(rt.alloc())?;
-    match words.first() {
-        Some(word) if word.as_str() == "measure" => measure_input(&rt, &words),
-        Some(word) if word.as_str() == "count" => count_input(&rt, &words),
-        Some(word) if word.as_str() == "rows" => answer_rows(&rt),
-        Some(_) => list_session(&rt, &words),
-        None => answer_lines(&rt),
-    }
+    run(&rt, &words)
 }

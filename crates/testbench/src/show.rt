@@ -3,7 +3,7 @@ use std::alloc::{AllocError, Global};
 use std::io;
 use std::io::Write;
 use yaml_lexeme::{yaml_lexeme_kind_t, yaml_lexeme_t};
-use yaml_text::{unnamed_yaml_token_t_data, yaml_fault_t, yaml_mark_t};
+use yaml_text::{unnamed_yaml_token_t_data, yaml_fault_t, yaml_mark_t, yaml_scalar_style_t};
 
 /// `INDEX:LINE:COLUMN`.
 pub fn show_mark(alloc: Global, mark: yaml_mark_t) -> Result<String, AllocError> {
@@ -56,33 +56,46 @@ pub fn show_bytes(alloc: Global, bytes: &[u8]) -> Result<String, AllocError> {
     Ok(text)
 }
 
+/// Bytes in hexadecimal after a space.
+fn show_one(alloc: Global, bytes: &[u8]) -> Result<String, AllocError> {
+    let bytes = show_bytes(alloc, bytes)?;
+    format!(in alloc; " {bytes}")
+}
+
+/// Two texts in hexadecimal, each after a space.
+fn show_two(alloc: Global, first: &[u8], second: &[u8]) -> Result<String, AllocError> {
+    let first = show_bytes(alloc, first)?;
+    let second = show_bytes(alloc, second)?;
+    format!(in alloc; " {first} {second}")
+}
+
+fn show_version(alloc: Global, major: i32, minor: i32) -> Result<String, AllocError> {
+    format!(in alloc; " {major} {minor}")
+}
+
+/// The text of a scalar in hexadecimal and its style, each after a space.
+fn show_scalar(
+    alloc: Global,
+    value: &[u8],
+    style: yaml_scalar_style_t,
+) -> Result<String, AllocError> {
+    let value = show_bytes(alloc, value)?;
+    format!(in alloc; " {value} {style:?}")
+}
+
 /// The parts of what a lexeme says.
 fn show_parts(alloc: Global, says: &unnamed_yaml_token_t_data) -> Result<String, AllocError> {
     match says {
         unnamed_yaml_token_t_data::VERSION_DIRECTIVE { major, minor } => {
-            let (major, minor) = (*major, *minor);
-            format!(in alloc; " {major} {minor}")
+            show_version(alloc, *major, *minor)
         }
         unnamed_yaml_token_t_data::TAG_DIRECTIVE { handle, prefix } => {
-            let (handle, prefix) = (show_bytes(alloc, handle)?, show_bytes(alloc, prefix)?);
-            format!(in alloc; " {handle} {prefix}")
+            show_two(alloc, handle, prefix)
         }
-        unnamed_yaml_token_t_data::ALIAS { value } => {
-            let value = show_bytes(alloc, value)?;
-            format!(in alloc; " {value}")
-        }
-        unnamed_yaml_token_t_data::ANCHOR { value } => {
-            let value = show_bytes(alloc, value)?;
-            format!(in alloc; " {value}")
-        }
-        unnamed_yaml_token_t_data::TAG { handle, suffix } => {
-            let (handle, suffix) = (show_bytes(alloc, handle)?, show_bytes(alloc, suffix)?);
-            format!(in alloc; " {handle} {suffix}")
-        }
-        unnamed_yaml_token_t_data::SCALAR { value, style } => {
-            let (value, style) = (show_bytes(alloc, value)?, *style);
-            format!(in alloc; " {value} {style:?}")
-        }
+        unnamed_yaml_token_t_data::ALIAS { value } => show_one(alloc, value),
+        unnamed_yaml_token_t_data::ANCHOR { value } => show_one(alloc, value),
+        unnamed_yaml_token_t_data::TAG { handle, suffix } => show_two(alloc, handle, suffix),
+        unnamed_yaml_token_t_data::SCALAR { value, style } => show_scalar(alloc, value, *style),
         _ => Ok(String::new(alloc)),
     }
 }
@@ -111,24 +124,46 @@ fn type_name(says: &unnamed_yaml_token_t_data) -> &'static str {
     }
 }
 
+/// The line of a lexeme with these parts, and with these texts of its start, end and reach.
+fn lexeme_line(
+    alloc: Global,
+    lexeme: &yaml_lexeme_t,
+    parts: &str,
+    marks: [&str; 3],
+) -> Result<String, AllocError> {
+    let [start, end, reach] = marks;
+    let passed = lexeme.passed_break;
+    let name = type_name(&lexeme.token_data);
+    format!(in alloc; "LEXEME {name}{parts} {start} {end} {reach} {passed}")
+}
+
 /// The line of a lexeme: its type, its parts, its start, end and reach, and whether it passed a break.
 pub fn show_lexeme(alloc: Global, lexeme: &yaml_lexeme_t) -> Result<String, AllocError> {
     let parts = show_parts(alloc, &lexeme.token_data)?;
     let start = show_mark(alloc, lexeme.start_mark)?;
     let end = show_mark(alloc, lexeme.end_mark)?;
     let reach = show_mark(alloc, lexeme.reach)?;
-    let passed = lexeme.passed_break;
-    let name = type_name(&lexeme.token_data);
-    format!(in alloc; "LEXEME {name}{parts} {start} {end} {reach} {passed}")
+    let marks = [start.as_str(), end.as_str(), reach.as_str()];
+    lexeme_line(alloc, lexeme, parts.as_str(), marks)
+}
+
+/// The line of a fault with these texts of its context's mark and its problem's.
+fn fault_line(
+    alloc: Global,
+    fault: &yaml_fault_t,
+    from: &str,
+    at: &str,
+) -> Result<String, AllocError> {
+    let problem = fault.problem.unwrap_or("-");
+    let context = fault.context.unwrap_or("-");
+    format!(in alloc; "FAULT {from} {at} {context}; {problem}")
 }
 
 /// The line of a fault: the marks of its context and its problem, and their texts.
 pub fn show_fault(alloc: Global, fault: &yaml_fault_t) -> Result<String, AllocError> {
-    let problem = fault.problem.unwrap_or("-");
-    let context = fault.context.unwrap_or("-");
     let at = show_mark(alloc, fault.problem_mark)?;
     let from = show_mark(alloc, fault.context_mark)?;
-    format!(in alloc; "FAULT {from} {at} {context}; {problem}")
+    fault_line(alloc, fault, from.as_str(), at.as_str())
 }
 
 /// The line of what is wrong with an input that is no text: the offset, the byte, unit or code point, and the problem.

@@ -8,17 +8,27 @@ use yaml_text::{yaml_encoding_t, yaml_error_type_t, yaml_token_t, yaml_token_typ
 
 const ANY: yaml_encoding_t = yaml_encoding_t::YAML_ANY_ENCODING;
 
+/// How many tokens one call gives, and whether there is no fault.
+fn all_of(alloc: Global, input: &[u8]) -> Result<(usize, bool), AllocError> {
+    let (tokens, fault) = yaml_scan_all(alloc, input, ANY)?;
+    Ok((tokens.len(), fault.is_none()))
+}
+
+/// How many tokens one call gives with a key limit of one byte, and the kind of the fault, if there is one.
+fn all_with_a_limit(
+    alloc: Global,
+    input: &[u8],
+) -> Result<(usize, Option<yaml_error_type_t>), AllocError> {
+    let (tokens, fault) = yaml_scan_all_limit(alloc, input, ANY, 1)?;
+    Ok((tokens.len(), fault.map(|fault| fault.error)))
+}
+
 #[test]
 fn all_tokens_and_the_fault(rt: HostRuntime) -> Result<(), Fail> {
-    let (tokens, fault) = yaml_scan_all(rt.alloc(), b"a: 1", ANY)?;
-    assert_eq!(rt; tokens.len(), 8);
-    assert!(rt; fault.is_none());
-    let (tokens, fault) = yaml_scan_all_limit(rt.alloc(), b"ab: 1", ANY, 1)?;
-    assert_eq!(rt; tokens.len(), 2);
-    match fault {
-        Some(fault) => assert_eq!(rt; fault.error, yaml_error_type_t::YAML_SCANNER_ERROR),
-        None => return Err("no fault".into()),
-    }
+    let error = yaml_error_type_t::YAML_SCANNER_ERROR;
+    let all = all_of(rt.alloc(), b"a: 1")?;
+    let limited = all_with_a_limit(rt.alloc(), b"ab: 1")?;
+    assert_eq!(rt; (all, limited), ((8, true), (2, Some(error))));
     Ok(())
 }
 
@@ -34,11 +44,19 @@ fn answers_to(
     Ok(answers)
 }
 
+/// A letter for a token: `e` for the empty one.
+fn letter_of(token: &yaml_token_t) -> char {
+    if *token == yaml_token_t::empty() {
+        'e'
+    } else {
+        't'
+    }
+}
+
 /// A letter for an answer.
 fn letter(answer: &yaml_answer_t) -> char {
     match answer {
-        yaml_answer_t::TOKEN(token) if *token == yaml_token_t::empty() => 'e',
-        yaml_answer_t::TOKEN(_) => 't',
+        yaml_answer_t::TOKEN(token) => letter_of(token),
         yaml_answer_t::PEEKED(_, _, _) => 'p',
         yaml_answer_t::SKIPPED => 'k',
         yaml_answer_t::NOTHING => 'n',
@@ -46,21 +64,43 @@ fn letter(answer: &yaml_answer_t) -> char {
     }
 }
 
-#[test]
-fn calls_and_their_answers(rt: HostRuntime) -> Result<(), Fail> {
-    let (s, p, k) = (yaml_call_t::SCAN, yaml_call_t::PEEK, yaml_call_t::SKIP);
-    let answers = answers_to(rt.alloc(), b"[a]", &[p, p, k, s, k, p, s, s, s, s])?;
-    let mut shown = String::new(rt.alloc());
-    for answer in &answers {
+/// The letters of some answers.
+fn letters(alloc: Global, answers: &[yaml_answer_t]) -> Result<String, AllocError> {
+    let mut shown = String::new(alloc);
+    for answer in answers {
         shown.push(letter(answer))?;
     }
-    assert_eq!(rt; shown.as_str(), "ppktnpttte");
+    Ok(shown)
+}
+
+/// The type of the token that the first answer shows, and where it ends. There is none if that answer shows no token.
+fn first_peeked(answers: &[yaml_answer_t]) -> Option<(yaml_token_type_t, u64)> {
     match answers.first() {
-        Some(yaml_answer_t::PEEKED(kind, _, end)) => {
-            assert_eq!(rt; *kind, yaml_token_type_t::YAML_STREAM_START_TOKEN);
-            assert_eq!(rt; end.index, 0);
-        }
-        _ => return Err("no token was peeked".into()),
+        Some(yaml_answer_t::PEEKED(kind, _, end)) => Some((*kind, end.index)),
+        _ => None,
     }
+}
+
+/// The letters of the answers to a list of calls on a new parser, and what the first one shows.
+fn letters_and_first(
+    alloc: Global,
+    input: &[u8],
+    calls: &[yaml_call_t],
+) -> Result<(String, Option<(yaml_token_type_t, u64)>), AllocError> {
+    let answers = answers_to(alloc, input, calls)?;
+    let shown = letters(alloc, &answers)?;
+    Ok((shown, first_peeked(&answers)))
+}
+
+#[test]
+fn calls_and_their_answers(rt: HostRuntime) -> Result<(), Fail> {
+    const S: yaml_call_t = yaml_call_t::SCAN;
+    const P: yaml_call_t = yaml_call_t::PEEK;
+    const K: yaml_call_t = yaml_call_t::SKIP;
+    const CALLS: [yaml_call_t; 10] = [P, P, K, S, K, P, S, S, S, S];
+    let start = yaml_token_type_t::YAML_STREAM_START_TOKEN;
+    let (shown, first) = letters_and_first(rt.alloc(), b"[a]", &CALLS)?;
+    assert_eq!(rt; first, Some((start, 0)));
+    assert_eq!(rt; shown.as_str(), "ppktnpttte");
     Ok(())
 }

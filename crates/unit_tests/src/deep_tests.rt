@@ -1,6 +1,7 @@
 //! Deep texts in every way in which tokens are taken: all of them come, and no memory is wanted at some size. Those of
 //! the worked rows are longer, and are taken by `tests/deep.py`.
 use std::alloc::{AllocError, Global};
+use std::process::Abort;
 use std::test::Fail;
 use yaml_scan::{
     yaml_answer_t, yaml_call_t, yaml_parser_has_token, yaml_parser_peek, yaml_parser_scan,
@@ -66,72 +67,115 @@ impl yaml_token_sink_t for count_t {
     ghost within_none = { λ _ _ _ _. tt };
 }
 
-/// How many tokens one call gives of a part that is repeated, and where the last one ends.
-fn at_once(alloc: Global, part: &str) -> Result<(usize, u64), Fail> {
+/// How many tokens there are, and where the last one ends. There is none if there is no token.
+fn counted(tokens: &[yaml_token_t]) -> (usize, Option<u64>) {
+    (
+        tokens.len(),
+        tokens.last().map(|token| token.end_mark.index),
+    )
+}
+
+/// How many tokens one call gives of a part that is repeated, where the last one ends, and whether there is no fault.
+fn at_once(alloc: Global, part: &str) -> Result<(usize, Option<u64>, bool), AllocError> {
     let input = repeated(alloc, part)?;
     let (tokens, fault) = yaml_scan_all(alloc, input.as_bytes(), ANY)?;
-    if fault.is_some() {
-        return Err("a fault".into());
-    }
-    match tokens.last() {
-        Some(token) => Ok((tokens.len(), token.end_mark.index)),
-        None => Err("no token".into()),
-    }
+    let (count, end) = counted(&tokens);
+    Ok((count, end, fault.is_none()))
+}
+
+/// Asserts how many tokens one call gives of a part that is repeated, and where the last one ends.
+fn expect_at_once(
+    rt: &(impl Abort + AllocGlobal),
+    part: &str,
+    count: usize,
+    end: u64,
+) -> Result<(), Fail> {
+    let told = at_once(rt.alloc(), part)?;
+    assert_eq!(rt; told, (count, Some(end), true));
+    Ok(())
 }
 
 #[test]
 fn openers_at_once(rt: HostRuntime) -> Result<(), Fail> {
-    assert_eq!(rt; at_once(rt.alloc(), "[")?, (TOKENS, 45_000));
-    Ok(())
+    expect_at_once(&rt, "[", TOKENS, 45_000)
 }
 
 #[test]
 fn closers_at_once(rt: HostRuntime) -> Result<(), Fail> {
-    assert_eq!(rt; at_once(rt.alloc(), "]")?, (TOKENS, 45_000));
-    Ok(())
+    expect_at_once(&rt, "]", TOKENS, 45_000)
 }
 
 /// Each `-` begins a block, which ends at the end.
 #[test]
 fn sequences_at_once(rt: HostRuntime) -> Result<(), Fail> {
-    assert_eq!(rt; at_once(rt.alloc(), "- ")?, (135_002, 90_000));
-    Ok(())
+    expect_at_once(&rt, "- ", 135_002, 90_000)
+}
+
+/// Takes the next token. Returns whether it is the stream end.
+fn takes_the_end(parser: &mut yaml_parser_t) -> Result<bool, Fail> {
+    match yaml_parser_scan(parser) {
+        Ok(token) => Ok(is_last(&token)),
+        Err(_) => Err("a fault".into()),
+    }
+}
+
+/// Shows the next token, and skips it. Returns whether it is the stream end.
+fn skips_the_end(parser: &mut yaml_parser_t) -> Result<bool, Fail> {
+    let last = match yaml_parser_peek(parser) {
+        Ok(token) => is_last(token),
+        Err(_) => return Err("a fault".into()),
+    };
+    if yaml_parser_has_token(parser) {
+        yaml_parser_skip(parser);
+    }
+    Ok(last)
+}
+
+/// How many scans it takes to the stream end.
+fn scans_to_the_end(parser: &mut yaml_parser_t) -> Result<usize, Fail> {
+    for n in 1..100_000 {
+        if takes_the_end(parser)? {
+            return Ok(n);
+        }
+    }
+    Err("no stream end".into())
+}
+
+/// How many tokens an input has, taken by scans.
+pub(crate) fn count_of(alloc: Global, input: &[u8]) -> Result<usize, Fail> {
+    let mut parser = yaml_parser_t::new(alloc, input, ANY);
+    scans_to_the_end(&mut parser)
 }
 
 #[test]
 fn scans(rt: HostRuntime) -> Result<(), Fail> {
     let input = repeated(rt.alloc(), "[")?;
-    let mut parser = yaml_parser_t::new(rt.alloc(), input.as_bytes(), ANY);
-    for _ in 1..TOKENS {
-        match yaml_parser_scan(&mut parser) {
-            Ok(token) => assert!(rt; !is_last(&token)),
-            Err(_) => return Err("a fault".into()),
+    let count = count_of(rt.alloc(), input.as_bytes())?;
+    assert_eq!(rt; count, TOKENS);
+    Ok(())
+}
+
+/// How many peeks, each with a skip, it takes to the stream end.
+fn skips_to_the_end(parser: &mut yaml_parser_t) -> Result<usize, Fail> {
+    for n in 1..100_000 {
+        if skips_the_end(parser)? {
+            return Ok(n);
         }
     }
-    match yaml_parser_scan(&mut parser) {
-        Ok(token) => assert!(rt; is_last(&token)),
-        Err(_) => return Err("a fault in the place of the stream end".into()),
-    }
-    Ok(())
+    Err("no stream end".into())
+}
+
+/// How many tokens an input has, taken by peeks and skips.
+fn skipped(alloc: Global, input: &[u8]) -> Result<usize, Fail> {
+    let mut parser = yaml_parser_t::new(alloc, input, ANY);
+    skips_to_the_end(&mut parser)
 }
 
 #[test]
 fn peeks_and_skips(rt: HostRuntime) -> Result<(), Fail> {
     let input = repeated(rt.alloc(), "[")?;
-    let mut parser = yaml_parser_t::new(rt.alloc(), input.as_bytes(), ANY);
-    for _ in 1..TOKENS {
-        match yaml_parser_peek(&mut parser) {
-            Ok(token) => assert!(rt; !is_last(token)),
-            Err(_) => return Err("a fault".into()),
-        }
-        if yaml_parser_has_token(&parser) {
-            yaml_parser_skip(&mut parser);
-        }
-    }
-    match yaml_parser_peek(&mut parser) {
-        Ok(token) => assert!(rt; is_last(token)),
-        Err(_) => return Err("a fault in the place of the stream end".into()),
-    }
+    let count = skipped(rt.alloc(), input.as_bytes())?;
+    assert_eq!(rt; count, TOKENS);
     Ok(())
 }
 
@@ -148,21 +192,46 @@ fn tokens_in(answers: &[yaml_answer_t]) -> usize {
     count
 }
 
-/// How many tokens come from so many lists of so many scans, all on one parser.
-fn listed(alloc: Global, lists: usize, scans: usize) -> Result<usize, Fail> {
-    let input = repeated(alloc, "[")?;
-    let mut parser = yaml_parser_t::new(alloc, input.as_bytes(), ANY);
+/// A list of so many scans.
+fn list_of(alloc: Global, scans: usize) -> Result<Vec<yaml_call_t>, AllocError> {
     let mut calls = Vec::new(alloc);
     for _ in 0..scans {
         calls.push(yaml_call_t::SCAN)?;
     }
+    Ok(calls)
+}
+
+/// How many tokens come from a list of calls.
+fn tokens_of(
+    alloc: Global,
+    parser: &mut yaml_parser_t,
+    calls: &[yaml_call_t],
+) -> Result<usize, AllocError> {
+    let mut answers = Vec::new(alloc);
+    yaml_run(parser, calls, &mut answers)?;
+    Ok(tokens_in(&answers))
+}
+
+/// How many tokens come from a list of calls that is run so many times.
+fn tokens_of_lists(
+    alloc: Global,
+    parser: &mut yaml_parser_t,
+    calls: &[yaml_call_t],
+    lists: usize,
+) -> Result<usize, AllocError> {
     let mut count: usize = 0;
     'lists: for _ in 0..lists {
-        let mut answers = Vec::new(alloc);
-        yaml_run(&mut parser, &calls, &mut answers)?;
-        count = count.wrapping_add(tokens_in(&answers));
+        count = count.wrapping_add(tokens_of(alloc, parser, calls)?);
     }
     Ok(count)
+}
+
+/// How many tokens come from so many lists of so many scans, all on one parser.
+fn listed(alloc: Global, lists: usize, scans: usize) -> Result<usize, AllocError> {
+    let input = repeated(alloc, "[")?;
+    let calls = list_of(alloc, scans)?;
+    let mut parser = yaml_parser_t::new(alloc, input.as_bytes(), ANY);
+    tokens_of_lists(alloc, &mut parser, &calls, lists)
 }
 
 #[test]
@@ -177,35 +246,58 @@ fn one_list(rt: HostRuntime) -> Result<(), Fail> {
     Ok(())
 }
 
+/// How many tokens one call gives to a sink, and whether there is no fault.
+fn sunk(alloc: Global) -> Result<(usize, bool), AllocError> {
+    let input = repeated(alloc, "[")?;
+    let mut count = count_t { room: 1, tokens: 0 };
+    let fault = yaml_scan_to(alloc, input.as_bytes(), ANY, 1024, &mut count)?;
+    Ok((count.tokens, fault.is_none()))
+}
+
 #[test]
 fn one_sink(rt: HostRuntime) -> Result<(), Fail> {
-    let input = repeated(rt.alloc(), "[")?;
-    let mut count = count_t { room: 1, tokens: 0 };
-    let fault = yaml_scan_to(rt.alloc(), input.as_bytes(), ANY, 1024, &mut count)?;
-    assert!(rt; fault.is_none());
-    assert_eq!(rt; count.tokens, TOKENS);
+    assert_eq!(rt; sunk(rt.alloc())?, (TOKENS, true));
     Ok(())
 }
 
-/// How many tokens a sink of a room was given, and how many were returned, up to the stream end.
-fn batched(alloc: Global, room: u128) -> Result<(usize, usize), Fail> {
-    let input = repeated(alloc, "[")?;
-    let mut parser = yaml_parser_t::new(alloc, input.as_bytes(), ANY);
-    let mut count = count_t { room, tokens: 0 };
-    let mut returned: usize = 0;
+/// Makes one call. Returns whether a token is returned, and whether it is the stream end.
+fn returned(parser: &mut yaml_parser_t, count: &mut count_t) -> Result<(bool, bool), Fail> {
+    match yaml_scan_next_to(parser, count) {
+        Ok(None) => Ok((false, false)),
+        Ok(Some(token)) => Ok((true, is_last(&token))),
+        Err(_) => Err("a fault".into()),
+    }
+}
+
+/// How many tokens are returned in calls to a sink, up to the stream end.
+fn returned_to_the_end(parser: &mut yaml_parser_t, count: &mut count_t) -> Result<usize, Fail> {
+    let mut others: usize = 0;
     'calls: for _ in 0..TOKENS {
-        match yaml_scan_next_to(&mut parser, &mut count) {
-            Ok(None) => {}
-            Ok(Some(token)) => {
-                returned = returned.wrapping_add(1);
-                if is_last(&token) {
-                    return Ok((count.tokens, returned));
-                }
-            }
-            Err(_) => return Err("a fault".into()),
+        let (some, last) = returned(parser, count)?;
+        others = others.wrapping_add(some as usize);
+        if last {
+            return Ok(others);
         }
     }
     Err("no stream end".into())
+}
+
+/// How many tokens a sink was given, and how many were returned, up to the stream end.
+fn given_and_returned(
+    alloc: Global,
+    input: &[u8],
+    count: &mut count_t,
+) -> Result<(usize, usize), Fail> {
+    let mut parser = yaml_parser_t::new(alloc, input, ANY);
+    let others = returned_to_the_end(&mut parser, count)?;
+    Ok((count.tokens, others))
+}
+
+/// How many tokens of a deep text a sink of a room was given, and how many were returned.
+fn batched(alloc: Global, room: u128) -> Result<(usize, usize), Fail> {
+    let input = repeated(alloc, "[")?;
+    let mut count = count_t { room, tokens: 0 };
+    given_and_returned(alloc, input.as_bytes(), &mut count)
 }
 
 /// All but the stream end go to the sink.

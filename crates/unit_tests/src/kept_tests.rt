@@ -3,7 +3,9 @@ ghost use Rattle.std.specs.Prelude.{◌≡◌};
 ghost use Rattle.yaml_scan.specs.Parser.{Parser};
 ghost use Rattle.yaml_scan.specs.inside.Kept.{IsKept};
 
+use crate::deep_tests::count_of;
 use std::alloc::{AllocError, Global};
+use std::process::Abort;
 use std::test::Fail;
 use yaml_scan::{
     yaml_kept_parser_t, yaml_kept_peek, yaml_kept_scan_to, yaml_parser_peek, yaml_parser_scan,
@@ -133,22 +135,6 @@ impl<'a> held_t<'a> {
     }
 }
 
-/// How many tokens an input has.
-fn count_of(alloc: Global, input: &[u8]) -> Result<usize, Fail> {
-    let mut parser = yaml_parser_t::new(alloc, input, ANY);
-    'tokens: for n in 1..200 {
-        match yaml_parser_scan(&mut parser) {
-            Ok(token) => {
-                if matches!(token.token_data, unnamed_yaml_token_t_data::STREAM_END) {
-                    return Ok(n);
-                }
-            }
-            Err(_) => return Err("a fault".into()),
-        }
-    }
-    Err("no stream end".into())
-}
-
 /// How many bytes the next token needs if it was shown, for a sink that had room for so many.
 fn need_of(kept: &yaml_kept_parser_t, texts: u128) -> u128 {
     match kept.peeked() {
@@ -165,55 +151,166 @@ fn stops_rightly(kept: &yaml_kept_parser_t, shelf: &shelf_t) -> bool {
     }
 }
 
-/// Gives all tokens of an input to a sink, in calls that have room for so many tokens, and bytes, or as many bytes as
-/// the next token needs. Returns how many it got if all are right.
-fn given(alloc: Global, input: &[u8], room: u128, texts: u128) -> Result<usize, Fail> {
-    let mut held = held_t::new(alloc, input);
-    let mut shelf = shelf_t::new(alloc, input);
-    'calls: for _ in 0..300 {
-        shelf.room = room;
-        let need = need_of(&held.kept, texts);
-        shelf.texts = if need > texts { need } else { texts };
-        if held.scan_to(&mut shelf) {
-            return Err("a fault".into());
-        }
-        if !stops_rightly(&held.kept, &shelf) {
-            return Err("stops at a wrong place".into());
-        }
-    }
+/// Makes one call with room for so many tokens, and bytes, or as many bytes as the next token needs. Returns whether
+/// there is a fault, and whether it stopped at a right place.
+fn goes_on(held: &mut held_t, shelf: &mut shelf_t, room: u128, texts: u128) -> (bool, bool)
+    requires { (p : Parser) × (p.input ≡ held.old.input.now) × IsKept p held.old.kept }
+    ensures { (p : Parser) × (p.input ≡ held.new.input.now) × IsKept p held.new.kept }
+{
+    shelf.room = room;
+    shelf.texts = need_of(&held.kept, texts).max(texts);
+    let faulty = held.scan_to(shelf);
+    (faulty, stops_rightly(&held.kept, shelf))
+}
+
+/// How many tokens a sink got, if all are right and none is left.
+fn all_got(held: &held_t, shelf: &shelf_t) -> Result<usize, Fail> {
     if shelf.wrong > 0 || !held.kept.is_over() {
         return Err("a wrong token, or no end".into());
     }
     Ok(shelf.tokens)
 }
 
+/// Makes 300 calls, each with room for so many tokens, and bytes, or as many bytes as the next token needs. Returns how
+/// many tokens the sink got if all are right.
+fn goes_to_the_end(
+    held: &mut held_t,
+    shelf: &mut shelf_t,
+    room: u128,
+    texts: u128,
+) -> Result<usize, Fail>
+    requires { (p : Parser) × (p.input ≡ held.old.input.now) × IsKept p held.old.kept }
+{
+    'calls: for _ in 0..300 {
+        if goes_on(held, shelf, room, texts) != (false, true) {
+            return Err("a fault, or a stop at a wrong place".into());
+        }
+    }
+    all_got(held, shelf)
+}
+
+/// How many tokens a new sink gets in `goes_to_the_end`, of a new parser.
+fn given(alloc: Global, input: &[u8], room: u128, texts: u128) -> Result<usize, Fail> {
+    let mut held = held_t::new(alloc, input);
+    let mut shelf = shelf_t::new(alloc, input);
+    goes_to_the_end(&mut held, &mut shelf, room, texts)
+}
+
+/// Asserts that a sink gets so many tokens in calls that have room for so many.
+fn expect_given(
+    rt: &(impl Abort + AllocGlobal),
+    input: &[u8],
+    room: u128,
+    count: usize,
+) -> Result<(), Fail> {
+    for texts in [0, 1, 2, 5, 1000] {
+        let tokens = given(rt.alloc(), input, room, texts)?;
+        assert_eq!(rt; tokens, count, "{room} {texts}");
+    }
+    Ok(())
+}
+
+/// Asserts that a sink gets all tokens of an input, whatever room it has.
+fn expect_all_given(rt: &(impl Abort + AllocGlobal), input: &[u8]) -> Result<(), Fail> {
+    let count = count_of(rt.alloc(), input)?;
+    for room in [1, 2, 3, 7, 1000] {
+        expect_given(rt, input, room, count)?;
+    }
+    Ok(())
+}
+
 /// Whatever room a sink has, it gets all tokens, and the calls stop only where there is no room.
 #[test]
 fn tokens_go_on_while_there_is_room(rt: HostRuntime) -> Result<(), Fail> {
-    for input in INPUTS {
-        let count = count_of(rt.alloc(), input)?;
-        for room in [1, 2, 3, 7, 1000] {
-            for texts in [0, 1, 2, 5, 1000] {
-                assert_eq!(rt;
-                    given(rt.alloc(), input, room, texts)?,
-                    count,
-                    "{room} {texts}"
-                );
-            }
-        }
+    for input in &INPUTS {
+        expect_all_given(&rt, input)?;
     }
     Ok(())
+}
+
+/// A call that gives tokens to a sink with room for so many, a peek, or no call.
+#[derive(Clone, Copy, Debug)]
+enum call_t {
+    GIVE(u128),
+    PEEK,
+    NONE,
+}
+
+/// Whether a fault is told, and then whether the session is over, whether it has a fault, and whether a token is shown.
+type told_t = (bool, bool, bool, bool);
+
+const GOES_ON: told_t = (false, false, false, false);
+
+const ENDED: told_t = (false, true, false, false);
+
+const FAULTY: told_t = (true, true, true, false);
+
+const FAULTY_BEFORE: told_t = (false, true, true, false);
+
+/// Makes a call. Returns what is told.
+fn told(held: &mut held_t, shelf: &mut shelf_t, call: call_t) -> told_t
+    requires { (p : Parser) × (p.input ≡ held.old.input.now) × IsKept p held.old.kept }
+    ensures { (p : Parser) × (p.input ≡ held.new.input.now) × IsKept p held.new.kept }
+{
+    let faulty = match call {
+        call_t::GIVE(room) => {
+            shelf.room = room;
+            shelf.texts = 100;
+            held.scan_to(shelf)
+        }
+        call_t::PEEK => held.peek(),
+        call_t::NONE => false,
+    };
+    let kept = &held.kept;
+    (
+        faulty,
+        kept.is_over(),
+        kept.fault().is_some(),
+        kept.peeked().is_some(),
+    )
+}
+
+/// Makes the call of a row. Asserts what is told, and how many tokens the sink has then.
+fn expect_told(
+    rt: &impl Abort,
+    held: &mut held_t,
+    shelf: &mut shelf_t,
+    row: &(call_t, told_t, usize),
+)
+    requires { (p : Parser) × (p.input ≡ held.old.input.now) × IsKept p held.old.kept }
+    ensures { (p : Parser) × (p.input ≡ held.new.input.now) × IsKept p held.new.kept }
+{
+    let (call, want, tokens) = *row;
+    let told = told(held, shelf, call);
+    assert_eq!(rt; (told, shelf.tokens), (want, tokens), "{call:?}");
+}
+
+/// Makes the calls of the rows, one after the other.
+fn expect_each_told(
+    rt: &impl Abort,
+    held: &mut held_t,
+    shelf: &mut shelf_t,
+    rows: &[(call_t, told_t, usize)],
+)
+    requires { (p : Parser) × (p.input ≡ held.old.input.now) × IsKept p held.old.kept }
+{
+    'calls: for row in rows {
+        expect_told(rt, held, shelf, row);
+    }
+}
+
+/// Makes the calls of the rows on a new parser of an input.
+fn expect_session(rt: &(impl Abort + AllocGlobal), input: &[u8], rows: &[(call_t, told_t, usize)]) {
+    let mut held = held_t::new(rt.alloc(), input);
+    let mut shelf = shelf_t::new(rt.alloc(), input);
+    expect_each_told(rt, &mut held, &mut shelf, rows);
 }
 
 /// A sink without room gets no token, and none is shown to it.
 #[test]
 fn no_token_goes_where_there_is_no_room(rt: HostRuntime) -> Result<(), Fail> {
-    let mut held = held_t::new(rt.alloc(), b"a");
-    let mut shelf = shelf_t::new(rt.alloc(), b"a");
-    assert!(rt; !held.scan_to(&mut shelf));
-    assert_eq!(rt; shelf.tokens, 0);
-    assert!(rt; held.kept.peeked().is_none());
-    assert!(rt; !held.kept.is_over());
+    const ROWS: [(call_t, told_t, usize); 1] = [(call_t::GIVE(0), GOES_ON, 0)];
+    expect_session(&rt, b"a", &ROWS);
     Ok(())
 }
 
@@ -243,32 +340,60 @@ fn gives_the_next(held: &mut held_t, right: &mut yaml_parser_t, shelf: &mut shel
     yaml_parser_scan(right).is_ok() && !faulty
 }
 
-/// Gives so many tokens of an input to a sink, one by one, each after it was shown twice. Returns how many it got if
-/// all are right and none is left.
-fn peeked_and_given(alloc: Global, input: &[u8], count: usize) -> Result<usize, Fail> {
-    let mut held = held_t::new(alloc, input);
-    let mut right = yaml_parser_t::new(alloc, input, ANY);
-    let mut shelf = shelf_t::new(alloc, input);
+/// Gives so many tokens to a sink, one by one, each after it was shown twice. Returns how many it got if all are right
+/// and none is left.
+fn peek_and_give(
+    held: &mut held_t,
+    right: &mut yaml_parser_t,
+    shelf: &mut shelf_t,
+    count: usize,
+) -> Result<usize, Fail>
+    requires { (p : Parser) × (p.input ≡ held.old.input.now) × IsKept p held.old.kept }
+{
     'tokens: for _ in 0..count {
-        let once = shows_the_next(&mut held, &mut right);
-        let twice = shows_the_next(&mut held, &mut right);
-        let given = gives_the_next(&mut held, &mut right, &mut shelf);
+        let once = shows_the_next(held, right);
+        let twice = shows_the_next(held, right);
+        let given = gives_the_next(held, right, shelf);
         if !once || !twice || !given {
             return Err("another token is shown, or a fault comes".into());
         }
     }
-    if shelf.wrong > 0 || !held.kept.is_over() {
-        return Err("a wrong token, or no end".into());
-    }
-    Ok(shelf.tokens)
+    all_got(held, shelf)
+}
+
+/// How many tokens a sink gets in `peek_and_give`, with a new parser beside the kept one.
+fn peek_beside(
+    alloc: Global,
+    held: &mut held_t,
+    shelf: &mut shelf_t,
+    count: usize,
+) -> Result<usize, Fail>
+    requires { (p : Parser) × (p.input ≡ held.old.input.now) × IsKept p held.old.kept }
+{
+    let mut right = yaml_parser_t::new(alloc, held.input, ANY);
+    peek_and_give(held, &mut right, shelf, count)
+}
+
+/// How many tokens a new sink gets in `peek_and_give`, of a new parser.
+fn peeked_and_given(alloc: Global, input: &[u8], count: usize) -> Result<usize, Fail> {
+    let mut held = held_t::new(alloc, input);
+    let mut shelf = shelf_t::new(alloc, input);
+    peek_beside(alloc, &mut held, &mut shelf, count)
+}
+
+/// Asserts that all tokens of an input are shown, and given one by one.
+fn expect_all_peeked(rt: &(impl Abort + AllocGlobal), input: &[u8]) -> Result<(), Fail> {
+    let count = count_of(rt.alloc(), input)?;
+    let tokens = peeked_and_given(rt.alloc(), input, count)?;
+    assert_eq!(rt; tokens, count);
+    Ok(())
 }
 
 /// A token is shown before each one that is taken, and twice.
 #[test]
 fn peeked_token_is_the_next(rt: HostRuntime) -> Result<(), Fail> {
-    for input in INPUTS {
-        let count = count_of(rt.alloc(), input)?;
-        assert_eq!(rt; peeked_and_given(rt.alloc(), input, count)?, count);
+    for input in &INPUTS {
+        expect_all_peeked(&rt, input)?;
     }
     Ok(())
 }
@@ -276,65 +401,71 @@ fn peeked_token_is_the_next(rt: HostRuntime) -> Result<(), Fail> {
 /// After the end a sink gets nothing, and nothing is shown.
 #[test]
 fn nothing_comes_after_the_end(rt: HostRuntime) -> Result<(), Fail> {
-    let mut held = held_t::new(rt.alloc(), b"a");
-    let mut shelf = shelf_t::new(rt.alloc(), b"a");
-    'calls: for _ in 0..2 {
-        shelf.room = 10;
-        shelf.texts = 10;
-        assert!(rt; !held.scan_to(&mut shelf));
-        assert!(rt; held.kept.is_over());
-        assert_eq!(rt; shelf.tokens, 3);
-    }
-    assert!(rt; !held.peek());
-    assert!(rt; held.kept.peeked().is_none());
+    const ROWS: [(call_t, told_t, usize); 3] = [
+        (call_t::GIVE(10), ENDED, 3),
+        (call_t::GIVE(10), ENDED, 3),
+        (call_t::PEEK, ENDED, 3),
+    ];
+    expect_session(&rt, b"a", &ROWS);
     Ok(())
+}
+
+/// Makes nine calls with room for so many tokens. Returns whether this one alone tells a fault, and the session is over
+/// and has a fault from it on.
+fn tells_at(held: &mut held_t, shelf: &mut shelf_t, room: u128, telling: usize) -> bool
+    requires { (p : Parser) × (p.input ≡ held.old.input.now) × IsKept p held.old.kept }
+{
+    let mut right = true;
+    'calls: for call in 1..10 {
+        let ended = call >= telling;
+        right &= told(held, shelf, call_t::GIVE(room)) == (call == telling, ended, ended, false);
+    }
+    right
+}
+
+/// Makes nine calls with room for so many tokens. Returns whether the fault is told at this call alone, how many tokens
+/// the sink got, and how many of them are wrong.
+fn told_at(alloc: Global, input: &[u8], room: u128, telling: usize) -> (bool, usize, usize) {
+    let mut held = held_t::new(alloc, input);
+    let mut shelf = shelf_t::new(alloc, input);
+    let right = tells_at(&mut held, &mut shelf, room, telling);
+    (right, shelf.tokens, shelf.wrong)
+}
+
+/// Asserts that a sink gets the six tokens before a fault, with room for one in each call, for three, and for all.
+fn expect_six(rt: &(impl Abort + AllocGlobal), input: &[u8]) {
+    for (room, telling) in [(1, 7), (3, 3), (100, 1)] {
+        let told = told_at(rt.alloc(), input, room, telling);
+        assert_eq!(rt; told, (true, 6, 0), "{room}");
+    }
 }
 
 /// The tokens before a fault go to the sink, and then the fault is told once, and kept.
 #[test]
 fn fault_comes_after_its_tokens(rt: HostRuntime) -> Result<(), Fail> {
-    for input in [
-        b"a: b: c".as_slice(),
-        b"\xFE\xFF\0a\0:\0 \0b\0:\0 \0c".as_slice(),
-    ] {
-        for (room, calls) in [(1, 7), (3, 3), (100, 1)] {
-            let mut held = held_t::new(rt.alloc(), input);
-            let mut shelf = shelf_t::new(rt.alloc(), input);
-            'calls: for call in 1..10 {
-                shelf.room = room;
-                shelf.texts = 100;
-                let ends = held.scan_to(&mut shelf);
-                assert_eq!(rt; ends, call == calls, "{room} {call}");
-                assert_eq!(rt; held.kept.is_over(), call >= calls);
-                assert_eq!(rt; held.kept.fault().is_some(), call >= calls);
-            }
-            assert_eq!(rt; shelf.tokens, 6, "{room}");
-            assert_eq!(rt; shelf.wrong, 0);
-        }
-    }
+    expect_six(&rt, b"a: b: c");
+    expect_six(&rt, b"\xFE\xFF\0a\0:\0 \0b\0:\0 \0c");
     Ok(())
 }
 
 /// A fault is told to a peek once, and no token is shown then.
 #[test]
 fn peek_finds_the_fault(rt: HostRuntime) -> Result<(), Fail> {
-    let input = b"\xFF";
-    let mut held = held_t::new(rt.alloc(), input);
-    assert!(rt; held.kept.fault().is_none());
-    assert!(rt; held.peek());
-    assert!(rt; held.kept.is_over());
-    assert!(rt; held.kept.fault().is_some());
-    assert!(rt; held.kept.peeked().is_none());
-    assert!(rt; !held.peek());
-    assert!(rt; held.kept.peeked().is_none());
+    const ROWS: [(call_t, told_t, usize); 3] = [
+        (call_t::NONE, GOES_ON, 0),
+        (call_t::PEEK, FAULTY, 0),
+        (call_t::PEEK, FAULTY_BEFORE, 0),
+    ];
+    expect_session(&rt, b"\xFF", &ROWS);
     Ok(())
 }
 
 /// A text of UTF-16 that was decoded is kept if a call finds a token without room, or nothing to give.
 #[test]
 fn decoded_text_is_kept(rt: HostRuntime) -> Result<(), Fail> {
-    let input = b"\xFF\xFEl\0o\0n\0g\0:\0 \0v\0";
-    assert_eq!(rt; given(rt.alloc(), input, 100, 1)?, 8);
-    assert_eq!(rt; given(rt.alloc(), input, 1, 0)?, 8);
+    const INPUT: &[u8] = b"\xFF\xFEl\0o\0n\0g\0:\0 \0v\0";
+    let at_once = given(rt.alloc(), INPUT, 100, 1)?;
+    let one_by_one = given(rt.alloc(), INPUT, 1, 0)?;
+    assert_eq!(rt; (at_once, one_by_one), (8, 8));
     Ok(())
 }

@@ -4,6 +4,9 @@ ghost use Rattle.yaml_c.specs.Held.{Scan, IsAt};
 
 use super::*;
 use crate::handle::closed;
+use crate::spelled::NOWHERE;
+use std::alloc::{AllocError, Global};
+use std::process::Abort;
 use std::test::Fail;
 
 /// The usual key limit, in bytes.
@@ -40,36 +43,89 @@ const NO_ANSWER: bogzhami_answer = bogzhami_answer {
     context_len: 77,
 };
 
+/// The counts of an answer, and the number of the kind of fault.
+fn counted(out: &bogzhami_answer) -> (u64, u64, u32) {
+    (out.token_count, out.text_len, out.error)
+}
+
+/// The status of a call, the counts of its answer, how long the texts of the fault are, and the indices of the problem
+/// and of its context.
+type told_t = (u32, (u64, u64, u32), (u64, u64), (u64, u64));
+
+/// Scans an input with the usual key limit. Returns what is told.
+fn scanned(
+    rt: HostRuntime,
+    input: &[u8],
+    tokens: &mut [bogzhami_token],
+    texts: &mut [u8],
+) -> told_t {
+    let mut out = NO_ANSWER;
+    let status = bogzhami_scan_all(rt.alloc(), input, 0, KEY_LIMIT, tokens, texts, &mut out);
+    let lens = (out.problem_len, out.context_len);
+    let indices = (out.problem_mark.index, out.context_mark.index);
+    (status, counted(&out), lens, indices)
+}
+
+/// Asserts what is told of a scan.
+fn expect_told(rt: &impl Abort, told: told_t, want: told_t) {
+    assert_eq!(rt; told, want);
+}
+
+/// Asserts what the room for texts has.
+fn expect_texts(rt: &impl Abort, texts: &[u8], want: &[u8]) {
+    assert_eq!(rt; texts, want);
+}
+
 const TAGGED: &[u8] = b"!a!xkey\n|\n";
+
+/// The numbers of a record's type and of its detail, and the major version.
+fn said(token: &bogzhami_token) -> (u32, u32, i32) {
+    (token.token_type, token.detail, token.major)
+}
+
+/// Where the texts of a record begin and how long they are, and where its value stands in the input.
+fn placed(token: &bogzhami_token) -> (u64, u64, u64, u64) {
+    (
+        token.text_at,
+        token.first_len,
+        token.second_len,
+        token.input_at,
+    )
+}
+
+/// The indices and the lines where a token starts and ends.
+fn spanned(token: &bogzhami_token) -> (u64, u64, u64, u64) {
+    let (start, end) = (token.start_mark, token.end_mark);
+    (start.index, start.line, end.index, end.line)
+}
+
+/// What a record says, where its texts are, and where the token is.
+type record_t = ((u32, u32, i32), (u64, u64, u64, u64), (u64, u64, u64, u64));
+
+/// Asserts what a record is.
+fn expect_record(rt: &impl Abort, token: &bogzhami_token, want: record_t) {
+    let record = (said(token), placed(token), spanned(token));
+    assert_eq!(rt; record, want);
+}
+
+/// Asserts what the records of the tagged text are, and that the last one is as it was.
+fn expect_records(rt: &impl Abort, tokens: &[bogzhami_token; 5]) {
+    let [start, tag, scalar, end, rest] = tokens;
+    let others = (said(start), end.token_type, rest.token_type);
+    assert_eq!(rt; others, ((1, 1, 0), 2, 77));
+    expect_record(rt, tag, ((20, 0, 0), (0, 3, 4, NOWHERE), (0, 0, 7, 0)));
+    expect_record(rt, scalar, ((21, 4, 0), (7, 0, 0, NOWHERE), (8, 1, 10, 2)));
+}
 
 /// A tag with a handle and a suffix, and an empty literal scalar.
 #[test]
 fn records_and_texts(rt: HostRuntime) -> Result<(), Fail> {
     let mut tokens = [NO_TOKEN; 5];
     let mut texts = [77u8; 8];
-    let mut out = NO_ANSWER;
-    let status = bogzhami_scan_all(
-        rt.alloc(),
-        TAGGED,
-        0,
-        KEY_LIMIT,
-        &mut tokens,
-        &mut texts,
-        &mut out,
-    );
-    assert_eq!(rt; (status, out.token_count, out.text_len), (0, 4, 7));
-    assert_eq!(rt; (out.error, out.problem_len, out.context_len), (0, 0, 0));
-    assert_eq!(rt; texts, *b"!a!xkeyM");
-    let [start, tag, scalar, end, rest] = tokens;
-    assert_eq!(rt; (start.token_type, start.detail), (1, 1));
-    assert_eq!(rt; (tag.token_type, tag.detail, tag.major), (20, 0, 0));
-    assert_eq!(rt; (tag.text_at, tag.first_len, tag.second_len), (0, 3, 4));
-    assert_eq!(rt; (tag.start_mark.index, tag.end_mark.index), (0, 7));
-    assert_eq!(rt; tag.input_at, u64::MAX);
-    assert_eq!(rt; (scalar.token_type, scalar.detail), (21, 4));
-    assert_eq!(rt; (scalar.text_at, scalar.first_len), (7, 0));
-    assert_eq!(rt; (scalar.start_mark.line, scalar.end_mark.line), (1, 2));
-    assert_eq!(rt; (end.token_type, rest.token_type), (2, 77));
+    let told = scanned(rt, TAGGED, &mut tokens, &mut texts);
+    expect_told(&rt, told, (0, (4, 7, 0), (0, 0), (0, 0)));
+    expect_texts(&rt, &texts, b"!a!xkeyM");
+    expect_records(&rt, &tokens);
     Ok(())
 }
 
@@ -78,26 +134,12 @@ fn records_and_texts(rt: HostRuntime) -> Result<(), Fail> {
 fn fault_and_its_texts(rt: HostRuntime) -> Result<(), Fail> {
     let mut tokens = [NO_TOKEN; 3];
     let mut texts = [77u8; 64];
-    let mut out = NO_ANSWER;
-    let input = b"!!a\n\"\" \"\n";
-    let status = bogzhami_scan_all(
-        rt.alloc(),
-        input,
-        0,
-        KEY_LIMIT,
-        &mut tokens,
-        &mut texts,
-        &mut out,
-    );
-    assert_eq!(rt;
-        (status, out.token_count, out.text_len, out.error),
-        (1, 2, 3, 3)
-    );
-    assert_eq!(rt; (out.problem_mark.index, out.context_mark.index), (9, 7));
-    assert_eq!(rt; (out.problem_len, out.context_len), (30, 30));
-    assert_eq!(rt;
-        texts,
-        *b"!!afound unexpected end of streamwhile scanning a quoted scalarM"
+    let told = scanned(rt, b"!!a\n\"\" \"\n", &mut tokens, &mut texts);
+    expect_told(&rt, told, (1, (2, 3, 3), (30, 30), (9, 7)));
+    expect_texts(
+        &rt,
+        &texts,
+        b"!!afound unexpected end of streamwhile scanning a quoted scalarM",
     );
     Ok(())
 }
@@ -107,19 +149,10 @@ fn fault_and_its_texts(rt: HostRuntime) -> Result<(), Fail> {
 fn rooms_that_are_too_small(rt: HostRuntime) -> Result<(), Fail> {
     let mut tokens = [NO_TOKEN; 1];
     let mut texts = [77u8; 4];
-    let mut out = NO_ANSWER;
-    let status = bogzhami_scan_all(
-        rt.alloc(),
-        TAGGED,
-        0,
-        KEY_LIMIT,
-        &mut tokens,
-        &mut texts,
-        &mut out,
-    );
-    assert_eq!(rt; (status, out.token_count, out.text_len), (0, 4, 7));
+    let told = scanned(rt, TAGGED, &mut tokens, &mut texts);
+    expect_told(&rt, told, (0, (4, 7, 0), (0, 0), (0, 0)));
+    expect_texts(&rt, &texts, b"!a!x");
     assert_eq!(rt; tokens[0].token_type, 1);
-    assert_eq!(rt; texts, *b"!a!x");
     Ok(())
 }
 
@@ -133,76 +166,87 @@ fn is_untouched(token: &bogzhami_token) -> bool {
         && marks.iter().all(|mark| (mark.index, mark.line, mark.column) == (77, 77, 77))
 }
 
+/// Whether an answer is all zeros.
+fn is_zero(out: &bogzhami_answer) -> bool {
+    let marks = [out.problem_mark, out.context_mark];
+    counted(out) == (0, 0, 0)
+        && (out.problem_value, out.problem_offset) == (0, 0)
+        && (out.problem_len, out.context_len) == (0, 0)
+        && marks
+            .iter()
+            .all(|mark| (mark.index, mark.line, mark.column) == (0, 0, 0))
+}
+
+/// The status of a call with a setting and a limit, whether the answer is all zeros, and whether the rooms are as they
+/// were.
+fn refused(alloc: Global, setting: u32, limit: u32) -> (u32, bool, bool) {
+    let mut tokens = [NO_TOKEN; 1];
+    let mut texts = [77u8; 1];
+    let mut out = NO_ANSWER;
+    let status = bogzhami_scan_all(
+        alloc,
+        b"a",
+        setting,
+        limit,
+        &mut tokens,
+        &mut texts,
+        &mut out,
+    );
+    let same = is_untouched(&tokens[0]) && texts[0] == 77;
+    (status, is_zero(&out), same)
+}
+
+/// Asserts that a call with a setting and a limit is refused.
+fn expect_refused(rt: &(impl Abort + AllocGlobal), setting: u32, limit: u32) {
+    let told = refused(rt.alloc(), setting, limit);
+    assert_eq!(rt; told, (2, true, true), "{setting} {limit}");
+}
+
 /// A setting or a limit that is wrong touches nothing but the answer, which is all zeros.
 #[test]
 fn wrong_settings_and_limits(rt: HostRuntime) -> Result<(), Fail> {
-    for (setting, limit) in [(4, KEY_LIMIT), (u32::MAX, KEY_LIMIT), (0, 0), (0, 65_537)] {
-        let mut tokens = [NO_TOKEN; 1];
-        let mut texts = [77u8; 1];
-        let mut out = NO_ANSWER;
-        let status = bogzhami_scan_all(
-            rt.alloc(),
-            b"a",
-            setting,
-            limit,
-            &mut tokens,
-            &mut texts,
-            &mut out,
-        );
-        assert_eq!(rt; status, 2, "{setting} {limit}");
-        assert_eq!(rt;
-            (out.token_count, out.text_len, out.error),
-            (0, 0, 0),
-            "{setting} {limit}"
-        );
-        assert_eq!(rt;
-            (out.problem_value, out.problem_offset),
-            (0, 0),
-            "{setting} {limit}"
-        );
-        assert_eq!(rt;
-            (out.problem_len, out.context_len),
-            (0, 0),
-            "{setting} {limit}"
-        );
-        let [token] = tokens;
-        assert!(rt; is_untouched(&token), "{setting} {limit}");
-        assert_eq!(rt; texts, [77], "{setting} {limit}");
-    }
+    expect_refused(&rt, 4, KEY_LIMIT);
+    expect_refused(&rt, u32::MAX, KEY_LIMIT);
+    expect_refused(&rt, 0, 0);
+    expect_refused(&rt, 0, 65_537);
     Ok(())
+}
+
+/// The status of a call with a limit, how many tokens there are, the type of the first, and the first byte of their
+/// texts.
+fn limited(rt: HostRuntime, limit: u32) -> (u32, u64, u32, u8) {
+    let mut tokens = [NO_TOKEN; 1];
+    let mut texts = [77u8; 1];
+    let mut out = NO_ANSWER;
+    let status = bogzhami_scan_all(
+        rt.alloc(),
+        b"a",
+        0,
+        limit,
+        &mut tokens,
+        &mut texts,
+        &mut out,
+    );
+    (status, out.token_count, tokens[0].token_type, texts[0])
 }
 
 /// The greatest and the least limit are right.
 #[test]
 fn ends_of_the_limits(rt: HostRuntime) -> Result<(), Fail> {
-    for limit in [1, 65_536] {
-        let mut tokens = [NO_TOKEN; 1];
-        let mut texts = [77u8; 1];
-        let mut out = NO_ANSWER;
-        let status = bogzhami_scan_all(
-            rt.alloc(),
-            b"a",
-            0,
-            limit,
-            &mut tokens,
-            &mut texts,
-            &mut out,
-        );
-        assert_eq!(rt; (status, out.token_count), (0, 3), "{limit}");
-        let [token] = tokens;
-        assert_eq!(rt; token.token_type, 1, "{limit}");
-        assert_eq!(rt; texts, *b"a", "{limit}");
-    }
+    let least = limited(rt, 1);
+    let greatest = limited(rt, 65_536);
+    let want = (0, 3, 1, b'a');
+    assert_eq!(rt; (least, greatest), (want, want));
     Ok(())
 }
 
 /// Where the value of the token after the stream start stands in the input.
-fn place(rt: HostRuntime, input: &[u8], setting: u32) -> u64 {
+fn place(alloc: Global, input: &[u8], setting: u32) -> u64 {
     let mut tokens = [NO_TOKEN; 2];
     let mut texts = [77u8; 8];
     let mut out = NO_ANSWER;
     let _status = bogzhami_scan_all(
-        rt.alloc(),
+        alloc,
         input,
         setting,
         KEY_LIMIT,
@@ -213,49 +257,52 @@ fn place(rt: HostRuntime, input: &[u8], setting: u32) -> u64 {
     tokens[1].input_at
 }
 
+/// Asserts where the values of inputs stand, which are in the encodings of these numbers.
+fn expect_places(rt: &(impl Abort + AllocGlobal), rows: &[(&[u8], u32, u64)]) {
+    for (input, setting, at) in rows {
+        assert_eq!(rt; place(rt.alloc(), input, *setting), *at, "{input:?}");
+    }
+}
+
 /// A value that the input has as it is stands at its place, after a quote, `*` or `&`.
 #[test]
 fn values_in_the_input(rt: HostRuntime) -> Result<(), Fail> {
-    const ROWS: [(&[u8], u64); 12] = [
-        (b"a", 0),
-        (b"ab", 0),
-        (b" abcde", 1),
-        (b" abcdefghi", 1),
-        (b" abcdefghijklmnopq", 1),
-        (b"# c\n ab # d", 5),
-        (b" 'ab'", 2),
-        (b" \"ab\"", 2),
-        (b"'ab'''", 1),
-        (b" ''", 2),
-        (b" &ab", 2),
-        (b" *ab", 2),
+    const ROWS: [(&[u8], u32, u64); 12] = [
+        (b"a", 0, 0),
+        (b"ab", 0, 0),
+        (b" abcde", 0, 1),
+        (b" abcdefghi", 0, 1),
+        (b" abcdefghijklmnopq", 0, 1),
+        (b"# c\n ab # d", 0, 5),
+        (b" 'ab'", 0, 2),
+        (b" \"ab\"", 0, 2),
+        (b"'ab'''", 0, 1),
+        (b" ''", 0, 2),
+        (b" &ab", 0, 2),
+        (b" *ab", 0, 2),
     ];
-    for (input, at) in ROWS {
-        assert_eq!(rt; place(rt, input, 0), at, "{input:?}");
-    }
+    expect_places(&rt, &ROWS);
     Ok(())
 }
 
 /// A value that the input has not as it is stands nowhere, nor do the texts of other tokens.
 #[test]
 fn values_that_are_not_in_the_input(rt: HostRuntime) -> Result<(), Fail> {
-    const ROWS: [&[u8]; 12] = [
-        b"\"a\\tb\"",
-        b"'a''b'",
-        b"\"a\n b\"",
-        b"a\n b",
-        b"a\n bcdefgh",
-        b"abcde\n fgh",
-        b"abcdefghijklmn\n opq",
-        b"|\n ab",
-        b">\n ab",
-        b"!ab",
-        b"%TAG !a! b\n---",
-        b"--- a",
+    const ROWS: [(&[u8], u32, u64); 12] = [
+        (b"\"a\\tb\"", 0, NOWHERE),
+        (b"'a''b'", 0, NOWHERE),
+        (b"\"a\n b\"", 0, NOWHERE),
+        (b"a\n b", 0, NOWHERE),
+        (b"a\n bcdefgh", 0, NOWHERE),
+        (b"abcde\n fgh", 0, NOWHERE),
+        (b"abcdefghijklmn\n opq", 0, NOWHERE),
+        (b"|\n ab", 0, NOWHERE),
+        (b">\n ab", 0, NOWHERE),
+        (b"!ab", 0, NOWHERE),
+        (b"%TAG !a! b\n---", 0, NOWHERE),
+        (b"--- a", 0, NOWHERE),
     ];
-    for input in ROWS {
-        assert_eq!(rt; place(rt, input, 0), u64::MAX, "{input:?}");
-    }
+    expect_places(&rt, &ROWS);
     Ok(())
 }
 
@@ -266,15 +313,13 @@ fn values_in_other_encodings(rt: HostRuntime) -> Result<(), Fail> {
         (b"\xEF\xBB\xBFab", 0, 3),
         (b"\xEF\xBB\xBFab", 1, 3),
         (b"ab", 1, 0),
-        (b"\xFF\xFEa\0", 0, u64::MAX),
-        (b"\xFE\xFF\0a", 0, u64::MAX),
-        (b"\xFF\xFE'\0'\0", 0, u64::MAX),
-        (b"a\0", 2, u64::MAX),
-        (b"\0a", 3, u64::MAX),
+        (b"\xFF\xFEa\0", 0, NOWHERE),
+        (b"\xFE\xFF\0a", 0, NOWHERE),
+        (b"\xFF\xFE'\0'\0", 0, NOWHERE),
+        (b"a\0", 2, NOWHERE),
+        (b"\0a", 3, NOWHERE),
     ];
-    for (input, setting, at) in ROWS {
-        assert_eq!(rt; place(rt, input, setting), at, "{input:?}");
-    }
+    expect_places(&rt, &ROWS);
     Ok(())
 }
 
@@ -346,23 +391,113 @@ fn peeked(
     (status, token.token_type, answer.text_len)
 }
 
+/// A call on a handle: a batch with room for so many tokens and bytes, a peek with room for so many bytes, or a close.
+#[derive(Clone, Copy, Debug, PartialEq, Eq)]
+enum call_t {
+    BATCH(usize, usize),
+    PEEK(usize),
+    CLOSE,
+}
+
+/// The status of a call, how many tokens it gives, the type of the first, or of the one that is shown, and how many
+/// bytes the texts have.
+type answer_t = (u32, u64, u32, u64);
+
+/// A call, and its answer.
+type row_t = (call_t, answer_t);
+
+/// The answer to a call, which has room for at most 8 tokens and 128 bytes. A peek gives no token. All that a close
+/// answers is its status.
+fn answered(rt: HostRuntime, handle: &mut bogzhami_handle, input: &[u8], call: call_t) -> answer_t
+    requires { handle.old.live ≡ true → (s : Scan) × (s.input ≡ input.now) × IsAt s handle.old.held.value }
+    ensures { handle.new.live ≡ true → (s : Scan) × (s.input ≡ input.now) × IsAt s handle.new.held.value }
+{
+    match call {
+        call_t::BATCH(count, len) => batch(rt, handle, input, count.min(8), len.min(128)),
+        call_t::PEEK(len) => {
+            let (status, kind, text_len) = peeked(rt, handle, input, len.min(128));
+            (status, 0, kind, text_len)
+        }
+        call_t::CLOSE => (bogzhami_close(rt.alloc(), handle), 0, 0, 0),
+    }
+}
+
+/// The calls of some rows, made one after the other, with their answers.
+fn made(
+    rt: HostRuntime,
+    handle: &mut bogzhami_handle,
+    input: &[u8],
+    rows: &[row_t],
+) -> Result<Vec<row_t>, AllocError>
+    requires { handle.old.live ≡ true → (s : Scan) × (s.input ≡ input.now) × IsAt s handle.old.held.value }
+{
+    let mut made = Vec::new(rt.alloc());
+    'calls: for (call, _) in rows {
+        made.push((*call, answered(rt, handle, input, *call)))?;
+    }
+    Ok(made)
+}
+
+/// The calls of some rows, made on a new handle, with their answers.
+fn session(rt: HostRuntime, input: &[u8], rows: &[row_t]) -> Result<Vec<row_t>, AllocError> {
+    let mut handle = opened(rt, input);
+    made(rt, &mut handle, input, rows)
+}
+
+/// Asserts that calls have the answers that are wanted.
+fn expect_rows(rt: &impl Abort, made: &[row_t], want: &[row_t]) {
+    assert_eq!(rt; made, want);
+}
+
 const SHORT: &[u8] = b"ab";
 
 /// A token whose text finds no room is given by a later call that has the room, and what is needed is told until then.
 #[test]
 fn text_waits_for_its_room(rt: HostRuntime) -> Result<(), Fail> {
-    let mut handle = opened(rt, SHORT);
-    let start = batch(rt, &mut handle, SHORT, 8, 1);
-    assert_eq!(rt; start, (0, 1, 1, 0));
-    let none = batch(rt, &mut handle, SHORT, 8, 1);
-    assert_eq!(rt; none, (5, 0, 77, 2));
-    let none = batch(rt, &mut handle, SHORT, 8, 0);
-    assert_eq!(rt; none, (5, 0, 77, 2));
-    let rest = batch(rt, &mut handle, SHORT, 8, 2);
-    assert_eq!(rt; rest, (0, 2, 21, 2));
-    let over = batch(rt, &mut handle, SHORT, 8, 2);
-    assert_eq!(rt; over, (4, 0, 77, 0));
-    assert_eq!(rt; bogzhami_close(rt.alloc(), &mut handle), 0);
+    const ROWS: [row_t; 6] = [
+        (call_t::BATCH(8, 1), (0, 1, 1, 0)),
+        (call_t::BATCH(8, 1), (5, 0, 77, 2)),
+        (call_t::BATCH(8, 0), (5, 0, 77, 2)),
+        (call_t::BATCH(8, 2), (0, 2, 21, 2)),
+        (call_t::BATCH(8, 2), (4, 0, 77, 0)),
+        (call_t::CLOSE, (0, 0, 0, 0)),
+    ];
+    expect_rows(&rt, &session(rt, SHORT, &ROWS)?, &ROWS);
+    Ok(())
+}
+
+/// A peek takes nothing: a second one shows the same, and the next batch begins with it.
+#[test]
+fn peek_before_batches_of_one(rt: HostRuntime) -> Result<(), Fail> {
+    const ROWS: [row_t; 11] = [
+        (call_t::PEEK(2), (0, 0, 1, 0)),
+        (call_t::PEEK(2), (0, 0, 1, 0)),
+        (call_t::BATCH(1, 2), (0, 1, 1, 0)),
+        (call_t::PEEK(2), (0, 0, 21, 2)),
+        (call_t::PEEK(2), (0, 0, 21, 2)),
+        (call_t::BATCH(1, 2), (0, 1, 21, 2)),
+        (call_t::PEEK(2), (0, 0, 2, 0)),
+        (call_t::PEEK(2), (0, 0, 2, 0)),
+        (call_t::BATCH(1, 2), (0, 1, 2, 0)),
+        (call_t::PEEK(2), (4, 0, 77, 0)),
+        (call_t::CLOSE, (0, 0, 0, 0)),
+    ];
+    expect_rows(&rt, &session(rt, SHORT, &ROWS)?, &ROWS);
+    Ok(())
+}
+
+/// A peek without room for the texts tells how much is needed, and so does the next batch.
+#[test]
+fn peek_without_room(rt: HostRuntime) -> Result<(), Fail> {
+    const ROWS: [row_t; 6] = [
+        (call_t::BATCH(1, 0), (0, 1, 1, 0)),
+        (call_t::PEEK(1), (5, 0, 77, 2)),
+        (call_t::BATCH(8, 1), (5, 0, 77, 2)),
+        (call_t::PEEK(2), (0, 0, 21, 2)),
+        (call_t::BATCH(8, 2), (0, 2, 21, 2)),
+        (call_t::CLOSE, (0, 0, 0, 0)),
+    ];
+    expect_rows(&rt, &session(rt, SHORT, &ROWS)?, &ROWS);
     Ok(())
 }
 
@@ -377,76 +512,85 @@ fn is_shown_and_given(rt: HostRuntime, handle: &mut bogzhami_handle, kind: u32, 
     first == (0, kind, len) && second == (0, kind, len) && token == (0, 1, kind, len)
 }
 
-/// A peek takes nothing: a second one shows the same, and the next batch begins with it.
-#[test]
-fn peek_before_batches_of_one(rt: HostRuntime) -> Result<(), Fail> {
-    let mut handle = opened(rt, SHORT);
-    assert!(rt; is_shown_and_given(rt, &mut handle, 1, 0));
-    assert!(rt; is_shown_and_given(rt, &mut handle, 21, 2));
-    assert!(rt; is_shown_and_given(rt, &mut handle, 2, 0));
-    let over = peeked(rt, &mut handle, SHORT, 2);
-    assert_eq!(rt; over, (4, 77, 0));
-    assert_eq!(rt; bogzhami_close(rt.alloc(), &mut handle), 0);
-    Ok(())
+/// The answers to three batches of one scanner, and whether the other shows and gives its first two tokens after the
+/// first batch.
+fn by_turns(
+    rt: HostRuntime,
+    one: &mut bogzhami_handle,
+    two: &mut bogzhami_handle,
+) -> ([answer_t; 3], bool)
+    requires one { one.old.live ≡ true → (s : Scan) × (s.input ≡ SHORT.now) × IsAt s one.old.held.value }
+    requires two { two.old.live ≡ true → (s : Scan) × (s.input ≡ SHORT.now) × IsAt s two.old.held.value }
+    ensures { two.new.live ≡ true → (s : Scan) × (s.input ≡ SHORT.now) × IsAt s two.new.held.value }
+{
+    let start = batch(rt, one, SHORT, 1, 2);
+    let first = is_shown_and_given(rt, two, 1, 0);
+    let second = is_shown_and_given(rt, two, 21, 2);
+    let scalar = batch(rt, one, SHORT, 1, 2);
+    let end = batch(rt, one, SHORT, 1, 2);
+    ([start, scalar, end], first && second)
 }
 
-/// A peek without room for the texts tells how much is needed, and so does the next batch.
-#[test]
-fn peek_without_room(rt: HostRuntime) -> Result<(), Fail> {
-    let mut handle = opened(rt, SHORT);
-    let start = batch(rt, &mut handle, SHORT, 1, 0);
-    assert_eq!(rt; start, (0, 1, 1, 0));
-    let none = peeked(rt, &mut handle, SHORT, 1);
-    assert_eq!(rt; none, (5, 77, 2));
-    let none = batch(rt, &mut handle, SHORT, 8, 1);
-    assert_eq!(rt; none, (5, 0, 77, 2));
-    let shown = peeked(rt, &mut handle, SHORT, 2);
-    assert_eq!(rt; shown, (0, 21, 2));
-    let rest = batch(rt, &mut handle, SHORT, 8, 2);
-    assert_eq!(rt; rest, (0, 2, 21, 2));
-    assert_eq!(rt; bogzhami_close(rt.alloc(), &mut handle), 0);
-    Ok(())
+/// The status of closing one scanner, the answer to a batch of the other, and the status of closing that one too.
+fn closed_by_turns(
+    rt: HostRuntime,
+    one: &mut bogzhami_handle,
+    two: &mut bogzhami_handle,
+) -> (u32, answer_t, u32)
+    requires { two.old.live ≡ true → (s : Scan) × (s.input ≡ SHORT.now) × IsAt s two.old.held.value }
+{
+    let first = bogzhami_close(rt.alloc(), one);
+    let end = batch(rt, two, SHORT, 8, 2);
+    (first, end, bogzhami_close(rt.alloc(), two))
+}
+
+/// What two new scanners answer by turns, until they are closed.
+fn two_by_turns(rt: HostRuntime) -> (([answer_t; 3], bool), (u32, answer_t, u32)) {
+    let mut one = opened(rt, SHORT);
+    let mut two = opened(rt, SHORT);
+    let given = by_turns(rt, &mut one, &mut two);
+    (given, closed_by_turns(rt, &mut one, &mut two))
 }
 
 /// Two scanners of one input go on each by itself.
 #[test]
 fn two_handles_over_one_input(rt: HostRuntime) -> Result<(), Fail> {
-    let mut one = opened(rt, SHORT);
-    let mut two = opened(rt, SHORT);
-    let start = batch(rt, &mut one, SHORT, 1, 2);
-    assert_eq!(rt; start, (0, 1, 1, 0));
-    assert!(rt; is_shown_and_given(rt, &mut two, 1, 0));
-    assert!(rt; is_shown_and_given(rt, &mut two, 21, 2));
-    let scalar = batch(rt, &mut one, SHORT, 1, 2);
-    assert_eq!(rt; scalar, (0, 1, 21, 2));
-    let end = batch(rt, &mut one, SHORT, 1, 2);
-    assert_eq!(rt; end, (0, 1, 2, 0));
-    assert_eq!(rt; bogzhami_close(rt.alloc(), &mut one), 0);
-    let end = batch(rt, &mut two, SHORT, 8, 2);
-    assert_eq!(rt; end, (0, 1, 2, 0));
-    assert_eq!(rt; bogzhami_close(rt.alloc(), &mut two), 0);
+    let (given, closed) = two_by_turns(rt);
+    let answers = [(0, 1, 1, 0), (0, 1, 21, 2), (0, 1, 2, 0)];
+    assert_eq!(rt; given, (answers, true));
+    assert_eq!(rt; closed, (0, (0, 1, 2, 0), 0));
     Ok(())
 }
 
 const FAULTY: &[u8] = b"@";
 
+/// How many bytes the texts of the fault have, as the second of two batches without room for them tells.
+fn needed(rt: HostRuntime) -> usize {
+    let mut handle = opened(rt, FAULTY);
+    let _ = batch(rt, &mut handle, FAULTY, 8, 1);
+    let (_, _, _, needed) = batch(rt, &mut handle, FAULTY, 8, 1);
+    let _ = bogzhami_close(rt.alloc(), &mut handle);
+    (needed as usize).min(128)
+}
+
+/// Calls of which the last but two has the room for the fault, and the answers to them.
+fn fault_rows(needed: usize) -> [row_t; 7] {
+    let waits = (5, 0, 77, needed as u64);
+    [
+        (call_t::BATCH(8, 1), (0, 1, 1, 0)),
+        (call_t::BATCH(8, 1), waits),
+        (call_t::PEEK(1), waits),
+        (call_t::BATCH(8, needed.saturating_sub(1)), waits),
+        (call_t::BATCH(8, needed), (1, 0, 77, 0)),
+        (call_t::BATCH(8, 128), (4, 0, 77, 0)),
+        (call_t::CLOSE, (0, 0, 0, 0)),
+    ]
+}
+
 /// A fault whose texts find no room is given by a later call, and once.
 #[test]
 fn fault_waits_for_its_room(rt: HostRuntime) -> Result<(), Fail> {
-    let mut handle = opened(rt, FAULTY);
-    let start = batch(rt, &mut handle, FAULTY, 8, 1);
-    assert_eq!(rt; start, (0, 1, 1, 0));
-    let (status, count, _, needed) = batch(rt, &mut handle, FAULTY, 8, 1);
-    assert_eq!(rt; (status, count), (5, 0));
-    let (status, kind, same) = peeked(rt, &mut handle, FAULTY, 1);
-    assert_eq!(rt; (status, kind, same), (5, 77, needed));
-    let room = (needed as usize).min(128);
-    let shorter = batch(rt, &mut handle, FAULTY, 8, room.saturating_sub(1));
-    assert_eq!(rt; shorter, (5, 0, 77, needed));
-    let fault = batch(rt, &mut handle, FAULTY, 8, room);
-    assert_eq!(rt; fault, (1, 0, 77, 0));
-    let over = batch(rt, &mut handle, FAULTY, 8, 128);
-    assert_eq!(rt; over, (4, 0, 77, 0));
-    assert_eq!(rt; bogzhami_close(rt.alloc(), &mut handle), 0);
+    let rows = fault_rows(needed(rt));
+    expect_rows(&rt, &session(rt, FAULTY, &rows)?, &rows);
     Ok(())
 }
