@@ -4,13 +4,15 @@ ghost use Rattle.yaml_c.specs.Held.{Scan, IsAt};
 
 use super::*;
 use crate::handle::closed;
-use crate::spelled::NOWHERE;
 use std::alloc::{AllocError, Global};
 use std::process::Abort;
 use std::test::Fail;
 
 /// The usual key limit, in bytes.
 const KEY_LIMIT: u32 = 1024;
+
+/// The number that tells that a value has no place in the input.
+const NOWHERE: u64 = u64::MAX;
 
 const NO_MARK: bogzhami_mark = bogzhami_mark {
     index: 77,
