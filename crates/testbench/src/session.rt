@@ -430,14 +430,6 @@ fn put_lexeme(out: &mut impl Write, lexeme: &yaml_lexeme_t) -> io::Result<()> {
     put_rest(out, lexeme.start_mark, lexeme.end_mark, &lexeme.token_data)
 }
 
-/// Writes a lexeme that was read, or the fault in its place.
-fn put_read(out: &mut impl Write, read: &Result<yaml_lexeme_t, yaml_fault_t>) -> io::Result<()> {
-    match read {
-        Ok(lexeme) => put_lexeme(out, lexeme),
-        Err(fault) => put_fault(out, fault),
-    }
-}
-
 /// Writes the lexeme at the front of a text, outside of flow and with no level open, or its fault.
 fn put_front(out: &mut impl Write, alloc: Global, text: &yaml_text_t) -> io::Result<()> {
     let Some(at) = mark_at(text, 0) else {
@@ -450,7 +442,10 @@ fn put_front(out: &mut impl Write, alloc: Global, text: &yaml_text_t) -> io::Res
         depth: 0,
         level: None,
     };
-    put_read(out, &yaml_lexeme_at(alloc, text, at, kind, context))
+    match yaml_lexeme_at(alloc, text, at, kind, context) {
+        Ok(lexeme) => put_lexeme(out, &lexeme),
+        Err(fault) => put_fault(out, &fault),
+    }
 }
 
 /// Decodes the input, and writes the lexeme at the front of its text.

@@ -1,34 +1,50 @@
 //! All tokens in one call, and lists of calls.
 use std::alloc::{AllocError, Global};
+use std::process::Abort;
 use std::test::Fail;
 use yaml_scan::{
     yaml_answer_t, yaml_call_t, yaml_parser_t, yaml_run, yaml_scan_all, yaml_scan_all_limit,
 };
-use yaml_text::{yaml_encoding_t, yaml_error_type_t, yaml_token_t, yaml_token_type_t};
+use yaml_text::{
+    yaml_encoding_t, yaml_error_type_t, yaml_fault_t, yaml_token_t, yaml_token_type_t,
+};
 
 const ANY: yaml_encoding_t = yaml_encoding_t::YAML_ANY_ENCODING;
 
-/// How many tokens one call gives, and whether there is no fault.
-fn all_of(alloc: Global, input: &[u8]) -> Result<(usize, bool), AllocError> {
-    let (tokens, fault) = yaml_scan_all(alloc, input, ANY)?;
-    Ok((tokens.len(), fault.is_none()))
+/// How many tokens one call gives, and the kind of the fault, if there is one.
+type told_t = (usize, Option<yaml_error_type_t>);
+
+/// What is told of tokens and a fault.
+fn told(tokens: &[yaml_token_t], fault: Option<yaml_fault_t>) -> told_t {
+    (tokens.len(), fault.map(|fault| fault.error))
 }
 
-/// How many tokens one call gives with a key limit of one byte, and the kind of the fault, if there is one.
-fn all_with_a_limit(
-    alloc: Global,
-    input: &[u8],
-) -> Result<(usize, Option<yaml_error_type_t>), AllocError> {
+/// What is told of all tokens.
+fn all_of(alloc: Global, input: &[u8]) -> Result<told_t, AllocError> {
+    let (tokens, fault) = yaml_scan_all(alloc, input, ANY)?;
+    Ok(told(&tokens, fault))
+}
+
+/// What is told of all tokens with a key limit of one byte.
+fn all_with_a_limit(alloc: Global, input: &[u8]) -> Result<told_t, AllocError> {
     let (tokens, fault) = yaml_scan_all_limit(alloc, input, ANY, 1)?;
-    Ok((tokens.len(), fault.map(|fault| fault.error)))
+    Ok(told(&tokens, fault))
+}
+
+/// Asserts what is told.
+fn expect_told(rt: &impl Abort, told: told_t, want: told_t) {
+    assert_eq!(rt; told, want);
 }
 
 #[test]
 fn all_tokens_and_the_fault(rt: HostRuntime) -> Result<(), Fail> {
     let error = yaml_error_type_t::YAML_SCANNER_ERROR;
-    let all = all_of(rt.alloc(), b"a: 1")?;
-    let limited = all_with_a_limit(rt.alloc(), b"ab: 1")?;
-    assert_eq!(rt; (all, limited), ((8, true), (2, Some(error))));
+    expect_told(&rt, all_of(rt.alloc(), b"a: 1")?, (8, None));
+    expect_told(
+        &rt,
+        all_with_a_limit(rt.alloc(), b"ab: 1")?,
+        (2, Some(error)),
+    );
     Ok(())
 }
 

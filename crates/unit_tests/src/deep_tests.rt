@@ -269,28 +269,30 @@ fn returned(parser: &mut yaml_parser_t, count: &mut count_t) -> Result<(bool, bo
     }
 }
 
-/// How many tokens are returned in calls to a sink, up to the stream end.
-fn returned_to_the_end(parser: &mut yaml_parser_t, count: &mut count_t) -> Result<usize, Fail> {
+/// How many tokens a sink was given, and how many were returned, up to the stream end.
+fn returned_to_the_end(
+    parser: &mut yaml_parser_t,
+    count: &mut count_t,
+) -> Result<(usize, usize), Fail> {
     let mut others: usize = 0;
     'calls: for _ in 0..TOKENS {
         let (some, last) = returned(parser, count)?;
         others = others.wrapping_add(some as usize);
         if last {
-            return Ok(others);
+            return Ok((count.tokens, others));
         }
     }
     Err("no stream end".into())
 }
 
-/// How many tokens a sink was given, and how many were returned, up to the stream end.
+/// How many tokens of a new parser a sink was given, and how many were returned.
 fn given_and_returned(
     alloc: Global,
     input: &[u8],
     count: &mut count_t,
 ) -> Result<(usize, usize), Fail> {
     let mut parser = yaml_parser_t::new(alloc, input, ANY);
-    let others = returned_to_the_end(&mut parser, count)?;
-    Ok((count.tokens, others))
+    returned_to_the_end(&mut parser, count)
 }
 
 /// How many tokens of a deep text a sink of a room was given, and how many were returned.

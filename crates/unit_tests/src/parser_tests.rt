@@ -272,6 +272,23 @@ fn queued_after(
     queued(&mut parser)
 }
 
+/// Asserts that a scan and a peek give the stream start and `[`, and how many steps are queued then.
+fn expect_queued(
+    rt: &(impl Abort + AllocGlobal),
+    input: &[u8],
+    limit: u32,
+    count: u64,
+) -> Result<(), Fail>
+    requires least { 1 ≤ limit }
+    requires most { limit ≤ 65536 }
+{
+    let start = yaml_token_type_t::YAML_STREAM_START_TOKEN;
+    let opener = yaml_token_type_t::YAML_FLOW_SEQUENCE_START_TOKEN;
+    let queued = queued_after(rt.alloc(), input, limit)?;
+    assert_eq!(rt; queued, (start, opener, count));
+    Ok(())
+}
+
 /// So many `[`.
 fn openers(alloc: Global, count: usize) -> Result<Vec<u8>, AllocError> {
     let mut input = Vec::new(alloc);
@@ -281,26 +298,17 @@ fn openers(alloc: Global, count: usize) -> Result<Vec<u8>, AllocError> {
     Ok(input)
 }
 
-const START: yaml_token_type_t = yaml_token_type_t::YAML_STREAM_START_TOKEN;
-
-const OPENER: yaml_token_type_t = yaml_token_type_t::YAML_FLOW_SEQUENCE_START_TOKEN;
-
 #[test]
 fn keys_keep_tokens_in_the_queue(rt: HostRuntime) -> Result<(), Fail> {
     let input = openers(rt.alloc(), 1026)?;
-    let many = queued_after(rt.alloc(), &input, 1024)?;
-    assert_eq!(rt; many, (START, OPENER, 1025));
-    let few = queued_after(rt.alloc(), &input, 4)?;
-    assert_eq!(rt; few, (START, OPENER, 5));
-    Ok(())
+    expect_queued(&rt, &input, 1024, 1025)?;
+    expect_queued(&rt, &input, 4, 5)
 }
 
 /// Of six flow sequences the first is no key any more after the fifth, with a key limit of 4: so five steps wait.
 #[test]
 fn six_openers_with_a_limit_of_four(rt: HostRuntime) -> Result<(), Fail> {
-    let queued = queued_after(rt.alloc(), b"[[[[[[", 4)?;
-    assert_eq!(rt; queued, (START, OPENER, 5));
-    Ok(())
+    expect_queued(&rt, b"[[[[[[", 4, 5)
 }
 
 /// The fault that a scan of a new parser returns, and the one that the parser has then.
@@ -314,23 +322,23 @@ fn faults_of(alloc: Global, input: &[u8]) -> (Option<yaml_fault_t>, Option<yaml_
 /// The fault of a refused text. That no memory is taken for it is seen by `tests/sessions.py`.
 #[test]
 fn near_the_end_of_a_refused_text(rt: HostRuntime) -> Result<(), Fail> {
-    let start = yaml_mark_t {
+    const START: yaml_mark_t = yaml_mark_t {
         index: 0,
         line: 0,
         column: 0,
     };
-    let want = yaml_fault_t {
+    const WANT: yaml_fault_t = yaml_fault_t {
         error: yaml_error_type_t::YAML_READER_ERROR,
         problem: Some("invalid leading UTF-8 octet"),
         problem_offset: 1,
         problem_value: 255,
-        problem_mark: start,
+        problem_mark: START,
         context: None,
-        context_mark: start,
+        context_mark: START,
     };
     let (returned, kept) = faults_of(rt.alloc(), b"a\xFF");
-    assert_eq!(rt; returned, Some(want));
-    assert_eq!(rt; kept, Some(want));
+    assert_eq!(rt; returned, Some(WANT));
+    assert_eq!(rt; kept, Some(WANT));
     Ok(())
 }
 
@@ -368,13 +376,23 @@ fn ends_after(
     Ok((found, peeked, taken, fault_column(parser)))
 }
 
+/// Asserts that a session ends with a fault after so many scans, whose problem is at this column.
+fn expect_end(
+    rt: &impl Abort,
+    parser: &mut yaml_parser_t,
+    scans: usize,
+    column: u64,
+) -> Result<(), Fail> {
+    let end = ends_after(parser, scans)?;
+    assert_eq!(rt; end, (true, true, true, Some(column)));
+    Ok(())
+}
+
 #[test]
 fn session_ends_with_one_fault(rt: HostRuntime) -> Result<(), Fail> {
     let any = yaml_encoding_t::YAML_ANY_ENCODING;
     let mut parser = yaml_parser_t::new(rt.alloc(), b"a: b: c", any);
-    let ended = ends_after(&mut parser, 6)?;
-    assert_eq!(rt; ended, (true, true, true, Some(4)));
-    Ok(())
+    expect_end(&rt, &mut parser, 6, 4)
 }
 
 /// Takes so many tokens at once, and counts them and the bytes of their texts.
@@ -442,63 +460,36 @@ fn returned(
     }
 }
 
-/// How many tokens are returned in calls to a sink, up to the stream end, and how many bytes their texts have.
-fn returned_to_the_end(
+/// How many tokens went to a sink, how many went there or were returned, how many bytes the texts of these have, and
+/// whether the stream end was returned.
+type counts_t = (usize, usize, usize, bool);
+
+/// Makes so many calls, or fewer if one returns the stream end. Returns the counts.
+fn counts_of(
     parser: &mut yaml_parser_t,
     shelf: &mut shelf_t,
-) -> Result<(usize, usize), Fail> {
+    calls: usize,
+) -> Result<counts_t, Fail> {
     let mut tokens: usize = 0;
     let mut bytes: usize = 0;
-    'calls: for _ in 0..100 {
+    let mut ended = false;
+    'calls: for _ in 0..calls {
         if let Some((len, last)) = returned(parser, shelf)? {
             tokens = tokens.wrapping_add(1);
             bytes = bytes.wrapping_add(len);
-            if last {
-                return Ok((tokens, bytes));
-            }
+            ended = last;
+        }
+        if ended {
+            break 'calls;
         }
     }
-    Err("no stream end".into())
-}
-
-/// How many tokens go to a sink until the stream end is returned, how many go there or are returned, and how many bytes
-/// the texts of these have.
-fn shelved(alloc: Global, room: u128) -> Result<(usize, usize, usize), Fail> {
-    let any = yaml_encoding_t::YAML_ANY_ENCODING;
-    let mut parser = yaml_parser_t::new(alloc, MANY, any);
-    let mut shelf = shelf_t {
-        room,
-        tokens: 0,
-        bytes: 0,
-    };
-    let (tokens, bytes) = returned_to_the_end(&mut parser, &mut shelf)?;
     let put = shelf.tokens;
-    Ok((
-        put,
-        tokens.wrapping_add(put),
-        bytes.wrapping_add(shelf.bytes),
-    ))
+    let all = tokens.wrapping_add(put);
+    Ok((put, all, bytes.wrapping_add(shelf.bytes), ended))
 }
 
-/// A sink without room gets no token, and all are returned. One with room for a token gets all but the stream end,
-/// which is returned.
-#[test]
-fn tokens_go_to_a_sink_with_room(rt: HostRuntime) -> Result<(), Fail> {
-    for (room, put) in [(0, 0), (1, 36), (3, 36), (1000, 36)] {
-        assert_eq!(rt; shelved(rt.alloc(), room)?, (put, 37, 13), "{room}");
-    }
-    Ok(())
-}
-
-/// Makes two calls.
-fn call_twice(parser: &mut yaml_parser_t, shelf: &mut shelf_t) -> Result<(), Fail> {
-    let _ = returned(parser, shelf)?;
-    let _ = returned(parser, shelf)?;
-    Ok(())
-}
-
-/// How many tokens went to a sink in the first two calls.
-fn put_in_two(alloc: Global, input: &[u8], room: u128) -> Result<usize, Fail> {
+/// The counts of so many calls on a new parser, with a sink that has room for so many tokens at once.
+fn shelved(alloc: Global, input: &[u8], room: u128, calls: usize) -> Result<counts_t, Fail> {
     let any = yaml_encoding_t::YAML_ANY_ENCODING;
     let mut parser = yaml_parser_t::new(alloc, input, any);
     let mut shelf = shelf_t {
@@ -506,8 +497,30 @@ fn put_in_two(alloc: Global, input: &[u8], room: u128) -> Result<usize, Fail> {
         tokens: 0,
         bytes: 0,
     };
-    call_twice(&mut parser, &mut shelf)?;
-    Ok(shelf.tokens)
+    counts_of(&mut parser, &mut shelf, calls)
+}
+
+/// A sink without room gets no token, and all are returned. One with room for a token gets all but the stream end,
+/// which is returned.
+#[test]
+fn tokens_go_to_a_sink_with_room(rt: HostRuntime) -> Result<(), Fail> {
+    for (room, put) in [(0, 0), (1, 36), (3, 36), (1000, 36)] {
+        let counts = shelved(rt.alloc(), MANY, room, 100)?;
+        assert_eq!(rt; counts, (put, 37, 13, true), "{room}");
+    }
+    Ok(())
+}
+
+/// Asserts how many tokens go to a sink of a room in the first two calls.
+fn expect_put(
+    rt: &(impl Abort + AllocGlobal),
+    input: &[u8],
+    room: u128,
+    put: usize,
+) -> Result<(), Fail> {
+    let (tokens, _, _, _) = shelved(rt.alloc(), input, room, 2)?;
+    assert_eq!(rt; tokens, put, "{input:?} {room}");
+    Ok(())
 }
 
 /// The start of the stream goes to a sink alone. Then go all tokens that waited for the one that decides whether a flow
@@ -517,10 +530,8 @@ fn put_in_two(alloc: Global, input: &[u8], room: u128) -> Result<usize, Fail> {
 fn waiting_tokens_go_to_a_sink_at_once(rt: HostRuntime) -> Result<(), Fail> {
     const SEQUENCE: &[u8] = b"[a, b, c]";
     const KEY: &[u8] = b"[a]: b";
-    for (room, put) in [(3, (8, 7)), (1, (2, 2))] {
-        let sequence = put_in_two(rt.alloc(), SEQUENCE, room)?;
-        let key = put_in_two(rt.alloc(), KEY, room)?;
-        assert_eq!(rt; (sequence, key), put, "{room}");
-    }
-    Ok(())
+    expect_put(&rt, SEQUENCE, 3, 8)?;
+    expect_put(&rt, KEY, 3, 7)?;
+    expect_put(&rt, SEQUENCE, 1, 2)?;
+    expect_put(&rt, KEY, 1, 2)
 }
