@@ -84,6 +84,7 @@ fn is_within(text: &yaml_text_t, level: Option<u64>) -> bool
     }
 }
 
+/// The mark of the place that a word names, if it names one.
 fn mark_of(text: &yaml_text_t, index: &str) -> Option<yaml_mark_t>
     ensures { IfSome result (λ mark. (n : ℕ) × IsMarkOf text.now.chars mark n) }
 {

@@ -95,8 +95,8 @@ pub fn list_session(rt: &HostRuntime, words: &[String]) -> io::Result<()> {
         return Err(wrong_words());
     };
     let setting = checked_setting(setting.as_str())?;
-    match rest.is_empty() {
-        true => read_text(rt, command.as_str(), setting),
-        false => read_tokens(rt, command.as_str(), setting, rest),
+    if rest.is_empty() {
+        return read_text(rt, command.as_str(), setting);
     }
+    read_tokens(rt, command.as_str(), setting, rest)
 }

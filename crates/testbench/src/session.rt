@@ -74,10 +74,12 @@ fn put_scalar(out: &mut impl Write, style: yaml_scalar_style_t, value: &[u8]) ->
     put_bytes(out, value)
 }
 
+/// Writes a space and an encoding.
 fn put_encoding(out: &mut impl Write, encoding: yaml_encoding_t) -> io::Result<()> {
     write!(out, " {encoding:?}")
 }
 
+/// Writes the two numbers of a version, each after a space.
 fn put_version(out: &mut impl Write, major: i32, minor: i32) -> io::Result<()> {
     write!(out, " {major} {minor}")
 }
@@ -374,6 +376,7 @@ pub fn make_calls(out: &mut impl Write, parser: &mut yaml_parser_t, word: &str) 
     Ok(())
 }
 
+/// Writes the line of each token.
 fn put_tokens(out: &mut impl Write, tokens: &[yaml_token_t]) -> io::Result<()> {
     for token in tokens {
         put_token(out, token)?;

@@ -69,6 +69,7 @@ fn show_two(alloc: Global, first: &[u8], second: &[u8]) -> Result<String, AllocE
     format!(in alloc; " {first} {second}")
 }
 
+/// The two numbers of a version, each after a space.
 fn show_version(alloc: Global, major: i32, minor: i32) -> Result<String, AllocError> {
     format!(in alloc; " {major} {minor}")
 }
