@@ -122,6 +122,7 @@ fn show_fault(alloc: Global, fault: &yaml_fault_t) -> Result<String, Fail> {
     Ok(format!(in alloc; "{context} {at}; {problem} {there}")?)
 }
 
+/// The text of these bytes, in the encoding that they are found to have.
 fn decoded(alloc: Global, bytes: &[u8]) -> Result<yaml_text_t, Fail> {
     match yaml_decode(alloc, bytes, ANY) {
         Ok(text) => Ok(text),
@@ -412,8 +413,8 @@ fn comment(alloc: Global, between: &str, sizes: (u64, u64)) -> Result<String, Fa
     Ok(text)
 }
 
-/// The line of the gap before a y that comes after a comment of so many bytes, which a break ends before the spaces, or
-/// nothing ends.
+/// The line of the gap before a y that comes after a comment and spaces, which have so many bytes together. A break may
+/// end the comment before the spaces.
 fn gap_line(alloc: Global, broken: bool, len: usize, sizes: (u64, u64)) -> Result<String, Fail> {
     let (letters, spaces) = sizes;
     if broken {
@@ -958,7 +959,7 @@ fn block_values(rt: HostRuntime) -> Result<(), Fail> {
 }
 
 /// Compares a literal or a folded scalar with what is wanted: a line of x, then what is between, then y up to a line
-/// feed. Its style and its front, what is between, what it keeps of that, and the line of its end.
+/// feed. The row has its style and its front, what is between, what it keeps of that, and the line of its end.
 fn expect_line(
     rt: &impl Abort,
     alloc: Global,

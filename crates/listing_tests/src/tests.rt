@@ -116,7 +116,7 @@ fn answer_to(alloc: Global, command: &str, input: &[u8]) -> Result<(u8, Vec<u8>)
     Ok((yaml_status(&outcome), written))
 }
 
-/// Asserts what was written for this.
+/// Asserts what was written. A failure names what was asked.
 pub(crate) fn expect_lines(rt: &impl Abort, asked: &str, written: &[u8], lines: &str) {
     assert_eq!(rt; written, lines.as_bytes(), "{asked}: {lines}");
 }
