@@ -1,7 +1,7 @@
 #!/usr/bin/env python3
 """Scans the YAML files that a list names, on many processors or machines: check.py [--scheduler ADDRESS] LIST.
 
-LIST has a path a line; `-` is standard input. Of a path that ends as a tar archive, the regular members are scanned. For each
+LIST has a path a line; `-` is standard input. Of a path that ends as a tar or zip archive, the regular members are scanned. For each
 file there is one line of output, in the order of the list, with tabs in it: path, tokens, bytes, and the fault with its line
 and column, or `-`. The exit status is 0, 1 if a file has a fault, 2 if a file was not read or the call is wrong.
 """
@@ -25,7 +25,6 @@ import math
 import pickle
 import queue
 import sys
-import tarfile
 import time
 from concurrent.futures import CancelledError
 from multiprocessing import resource_tracker
@@ -33,8 +32,9 @@ from multiprocessing import resource_tracker
 HERE = os.path.dirname(os.path.abspath(__file__))
 sys.path.insert(0, HERE)
 sys.dont_write_bytecode = True
+import archives
 import count
-from count import FILE_WEIGHT, Entry, Part, joined, member_name, scan_part, unread_line
+from count import FILE_WEIGHT, Part, archive_entries, joined, member_name, scan_part, unread_line
 
 TOP = os.path.join(HERE, "..", "..")
 LIBRARY = os.path.join(TOP, "ffi", "out", "libbogzhami.so")
@@ -74,7 +74,7 @@ except ImportError as lacking:
     sys.stderr.write(f"check: {lacking}: dask.distributed is needed (Debian: python3-distributed, for /usr/bin/python3)\n")
     sys.exit(2)
 
-ARCHIVES = (b".tar", b".tar.gz", b".tgz", b".tar.bz2", b".tbz2", b".tar.xz", b".txz")
+ARCHIVES = (b".tar", b".tar.gz", b".tgz", b".tar.bz2", b".tbz2", b".tar.xz", b".txz", b".zip")
 MEGABYTE = 1_000_000
 SAMPLE = 256  # the system is asked for the size of about so many files, to guess how long all are
 ROUND_SHARE = 0.75  # a round of parts, one for each processor, is so much of what is left,
@@ -122,16 +122,6 @@ def size_of(path):
         return os.stat(path).st_size
     except (OSError, ValueError):
         return 0
-
-
-def archive_entries(path):
-    """The members of an archive, each with its weight. If it is compressed or damaged, the archive as a whole."""
-    try:
-        with tarfile.open(path, "r:") as archive:
-            found = [(Entry(path, one.name, one.offset_data, one.size), FILE_WEIGHT + one.size) for one in archive if one.isreg()]
-    except (OSError, ValueError, tarfile.TarError):
-        found = []
-    return found or [(Entry(path, None, 0, None), FILE_WEIGHT + size_of(path))]
 
 
 class Job:
@@ -209,6 +199,7 @@ class Scan:
 
     def __init__(self, client, library, folder):
         plugin = SendLibrary(library)
+        client.upload_file(archives.__file__)  # which count imports
         client.upload_file(count.__file__)
         client.register_worker_plugin(plugin, name=plugin.file_name)
         self.client, self.words = client, (plugin.file_name, folder)

@@ -10,8 +10,10 @@ import os
 import re
 import stat
 import tarfile
-import zlib
+import zipfile
 from ctypes import byref, c_bool, c_int32, c_size_t, c_uint32, c_uint64, c_void_p
+
+from archives import compression_of, open_file, read_tar, read_zip, tar_members
 
 BATCH = 1024  # tokens a call
 TOKEN_WORDS = 12  # a record of a token has 96 bytes
@@ -23,13 +25,7 @@ ANY_ENCODING = 0
 DONE, FAULT, NO_MEMORY, OVER, NO_ROOM = 0, 1, 3, 4, 5
 READER_ERROR, SCANNER_ERROR = 2, 3
 BREAK = re.compile("\r\n|[\r\n\x85\u2028\u2029]")
-# What tarfile and its decompressors raise for an archive that is damaged. lzma and bz2 may be missing from a Python.
-DAMAGED = (tarfile.TarError, EOFError, zlib.error, ValueError)
-try:
-    from lzma import LZMAError
-    DAMAGED += (LZMAError,)
-except ImportError:
-    pass
+ZIP = b".zip"
 
 # What is scanned is a path, for a file, or an Entry: a member of an archive that is not compressed, with its place, or an archive
 # whose members are read one after the other, if `size` is None.
@@ -140,11 +136,27 @@ def member_name(path, member):
 
 
 def members(entry, path):
-    """The name of each member of an archive that is read from its beginning, with its bytes. It may raise one of DAMAGED."""
-    with tarfile.open(path, "r|*") as archive:
-        for member in archive:
-            if member.isreg():
-                yield member_name(entry.path, member.name), archive.extractfile(member).read()
+    """The name of each member of an archive that is read as a whole, with its bytes, or with what keeps it from being read."""
+    for member, data in read_zip(path) if path.lower().endswith(ZIP) else read_tar(path):
+        yield entry.path + b":" + member, data
+
+
+def archive_entries(path):
+    """The members of an archive, each with its weight: those of a tar that is not compressed, if all of it is whole and their
+    bytes stand in it as they are. Otherwise the archive as a whole, which weighs what is given."""
+    found, size = [], 0
+    try:
+        with open_file(path) as file:
+            size = os.fstat(file.fileno()).st_size
+            if not path.lower().endswith(ZIP) and not compression_of(file):
+                for _, one in tar_members(file):
+                    if one.issparse():
+                        raise tarfile.ReadError("its bytes stand elsewhere")
+                    if one.isreg():
+                        found.append((Entry(path, one.name, one.offset_data, one.size), FILE_WEIGHT + one.size))
+    except Exception:  # whatever it is, the worker that reads the archive tells it
+        found = []
+    return found or [(Entry(path, None, 0, None), FILE_WEIGHT + size)]
 
 
 def inputs(entry, folder):
@@ -159,7 +171,7 @@ def inputs(entry, folder):
         else:
             name = member_name(entry.path, entry.member)
             yield name, read_member(entry, path)
-    except (OSError, MemoryError, *DAMAGED) as wrong:
+    except Exception as wrong:  # tarfile and zipfile have no list of what they raise
         yield name, wrong
 
 
@@ -179,15 +191,23 @@ def joined(parts):
     return Part(b"".join(lines), *map(sum, counts))
 
 
+def reason(wrong):
+    """Why something was not read, in words."""
+    if isinstance(wrong, MemoryError):
+        return "out of memory"
+    if isinstance(wrong, (OSError, tarfile.TarError, zipfile.BadZipFile, NotImplementedError, ImportError)):
+        return getattr(wrong, "strerror", None) or str(wrong)
+    return f"it is damaged: {wrong or type(wrong).__name__}"
+
+
 def scan_input(counter, name, data):
-    """The part that is this one input."""
+    """The part that is this one input, of which `data` is what keeps it from being read, or else its bytes."""
     try:
         if isinstance(data, Exception):
-            raise data
+            return Part(unread_line(name, reason(data)), 1, 0, 0, 0, 1)
         tokens, fault = counter.count(data)
-    except (OSError, MemoryError, *DAMAGED) as wrong:
-        why = getattr(wrong, "strerror", None) or str(wrong) or "out of memory"
-        return Part(unread_line(name, why), 1, 0, 0, 0, 1)
+    except MemoryError as wrong:
+        return Part(unread_line(name, reason(wrong)), 1, 0, 0, 0, 1)
     return Part(line(name, tokens, len(data), fault or "-"), 1, tokens, len(data), 1 if fault else 0, 0)
 
 
