@@ -197,6 +197,8 @@ def tar_members(file):
     with tarfile.TarFile(fileobj=tape) as archive:
         member = archive.next()
         while member:
+            if member.size < 0:
+                raise tarfile.ReadError(f"the header before byte {tape.tell() + 1} is damaged: a size is less than 0")
             yield archive, member
             archive.members.clear()  # it would keep them all
             member = archive.next()
