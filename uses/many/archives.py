@@ -195,13 +195,11 @@ def tar_members(file):
     """Each member of a tar archive as tarfile has it, and the archive, of which its bytes can be read before the next one."""
     tape = Tape(file)
     with tarfile.TarFile(fileobj=tape) as archive:
-        member = archive.next()
-        while member:
+        for member in archive:
             if member.size < 0:
                 raise tarfile.ReadError(f"the header before byte {tape.tell() + 1} is damaged: a size is less than 0")
             yield archive, member
             archive.members.clear()  # it would keep them all
-            member = archive.next()
     check_end(tape)
 
 
