@@ -11,7 +11,8 @@ folders, pipes, damaged archives.
 Small archives of each kind (lib/damaged.py) are cut after each byte, and a bit is flipped in each byte: all bits, one after the
 other, and of a plain tar one of them. Each of these is told, or has the lines of the whole archive, unless no checksum is over
 the bit; and of a plain tar no member before a cut is lost. Single archives have what else may be wrong: no end marker, other bytes
-after it, a damaged header, an encrypted member, a wrong directory. A file with holes has the bytes that it had.
+after it, a damaged header, an encrypted member, a wrong directory. A file with holes has the bytes that it had. Of 6,000 small
+members each takes less than six times as long in a compressed archive as in a plain one.
 
 The workers log each file that they open (lib/opens.py), and wait at one of them. There a worker is killed, in the middle of a
 part, when all other parts are done: the lines are all there, the three files of its part that it had opened were opened twice,
@@ -49,6 +50,7 @@ CHECK = os.path.join(MANY, "check.py")
 sys.path[:0] = [HERE, os.path.join(HERE, "lib"), MANY, os.path.join(TOP, "bench")]
 sys.dont_write_bytecode = True
 import damaged
+from archives import read_tar
 from count import Counter
 from ffi import FFI, vectors
 from library import VERSION, build_library
@@ -238,6 +240,30 @@ def try_damaged(room):
     told = "no GNU tar for files with holes" if holes is None else f"files with holes in 2 formats, {len(holes)} wrong"
     print(f"many: {count} bytes of {len(jobs) // 2} archives cut and flipped, {len(wrong)} wrong; {more} others, {len(more_wrong)} wrong; {told}")
     return not wrong and not more_wrong and not holes and count > 40_000 and more > 30
+
+
+def seconds_to_read(path):
+    """The least processor time that reading a tar archive took, of three times, and how many members it has."""
+    taken = []
+    for _ in range(3):
+        start = time.process_time()
+        count = sum(1 for _ in read_tar(path))
+        taken.append(time.process_time() - start)
+    return min(taken), count
+
+
+def try_small_members(room):
+    """Small members of archives that unpack to a thousand times as many bytes: each takes about as long as of a plain tar."""
+    inputs, seconds = [(str(number), EQUAL) for number in range(6000)], {}
+    for kind in ("", "gz", "bz2", "xz"):
+        path = os.path.join(room, "small.tar" + kind)
+        archive(path, "w:" + kind, inputs)
+        seconds[kind], count = seconds_to_read(path)
+    times = {kind: seconds[kind] / seconds[""] for kind in ("gz", "bz2", "xz")}
+    wrong = sum(one > 6 for one in times.values()) + (count != len(inputs))
+    told = ", ".join(f"{kind} {one:.1f}" for kind, one in times.items())
+    print(f"many: {count} small members take so many times as long as of a plain tar: {told}; {wrong} wrong")
+    return not wrong
 
 
 def try_files(machines, room, counter):
@@ -503,7 +529,7 @@ def main():
     counter = Counter(LIBRARY)
     good.append(try_faults(counter))
     with tempfile.TemporaryDirectory() as room:
-        good.append(try_damaged(room))
+        good += [try_damaged(room), try_small_members(room)]
     with tempfile.TemporaryDirectory() as room:
         with Machines(python, room) as machines:
             good += [
