@@ -20,6 +20,11 @@ ZIP_END_SIGNATURE = b"PK\x05\x06"
 IN_ZIP64 = 0xFFFF, 0xFFFFFFFF  # a count and a place that stand in another record
 ENCRYPTED = 1  # a flag of a zip member
 
+
+class Damaged(Exception):
+    """What is wrong with an archive, and where."""
+
+
 # A way to compress: what makes its decompressor, and how many zeros may follow a stream: as many times so many as one likes.
 Compression = collections.namedtuple("Compression", "begin padding")
 
@@ -84,7 +89,7 @@ def unpacked_slice(stream, data, file):
     try:
         return stream.decompress(data, PIECE)
     except Exception as wrong:  # each decompressor has its own
-        raise tarfile.ReadError(f"its compressed data is damaged before byte {file.tell() + 1} of the file: {wrong}") from None
+        raise Damaged(f"its compressed data is damaged before byte {file.tell() + 1} of the file: {wrong}") from None
 
 
 def after_stream(file, data, padding):
@@ -98,7 +103,7 @@ def after_stream(file, data, padding):
             break
         data = b""
     if zeros % padding:
-        raise tarfile.ReadError("the file ends within the zeros after its compressed data")
+        raise Damaged("the file ends within the zeros after its compressed data")
     return rest
 
 
@@ -111,7 +116,7 @@ def unpack(file, compression):
             piece = unpacked_slice(stream, data, file)
             data = file.read(SLICE) if stream.needs_input and not stream.eof else b""
             if not (piece or data or stream.eof or not stream.needs_input):
-                raise tarfile.ReadError("the file ends within its compressed data")
+                raise Damaged("the file ends within its compressed data")
             yield piece
         data = after_stream(file, stream.unused_data, compression.padding)
 
@@ -165,14 +170,14 @@ class Tape:
 
     def read(self, size):
         if size < 0:
-            raise tarfile.ReadError(f"the header before byte {self.place + 1} is damaged: a size is less than 0")
+            raise Damaged(f"the header before byte {self.place + 1} is damaged: a size is less than 0")
         self.last = self.file.read(size)
         self.place += len(self.last)
         return self.last
 
     def seek(self, place):
         if place < self.place:
-            raise tarfile.ReadError(f"the header before byte {self.place + 1} is damaged: a member begins before it")
+            raise Damaged(f"the header before byte {self.place + 1} is damaged: a member begins before it")
         self.place = self.file.seek(place)
         return self.place
 
@@ -182,22 +187,21 @@ def check_end(tape):
     blocks. For tarfile a header that is cut or damaged, or no block at all, ends it as well."""
     block, at = tape.last, tape.tell() - len(tape.last)
     if len(block) == BLOCK and any(block):
-        raise tarfile.ReadError(f"the header at byte {at + 1} is damaged")
+        raise Damaged(f"the header at byte {at + 1} is damaged")
     while block:
         if block != bytes(len(block)):
-            raise tarfile.ReadError(f"other bytes follow the zeros at byte {at + 1}, at which the archive ends")
+            raise Damaged(f"other bytes follow the zeros at byte {at + 1}, at which the archive ends")
         block = tape.read(PIECE)
     if tape.tell() < at + 2 * BLOCK or tape.tell() % BLOCK:
-        raise tarfile.ReadError(f"it ends after {tape.tell()} bytes, before the end of an archive, which is two blocks of zeros")
+        raise Damaged(f"it ends after {tape.tell()} bytes, before the end of an archive, which is two blocks of zeros")
 
 
-def tar_members(file):
+def tar_members(tape):
     """Each member of a tar archive as tarfile has it, and the archive, of which its bytes can be read before the next one."""
-    tape = Tape(file)
     with tarfile.TarFile(fileobj=tape) as archive:
         for member in archive:
             if member.size < 0:
-                raise tarfile.ReadError(f"the header before byte {tape.tell() + 1} is damaged: a size is less than 0")
+                raise Damaged(f"the header before byte {tape.tell() + 1} is damaged: a size is less than 0")
             yield archive, member
             archive.members.clear()  # it would keep them all
     check_end(tape)
@@ -207,9 +211,15 @@ def read_tar(path):
     """The name and the bytes of each regular member of a tar archive, compressed or not. Raises where it is damaged."""
     with open_file(path) as file:
         compression = compression_of(file)
-        for archive, member in tar_members(Unpacked(file, compression) if compression else file):
-            if member.isreg():
-                yield os.fsencode(member.name), archive.extractfile(member).read()
+        tape = Tape(Unpacked(file, compression) if compression else file)
+        try:
+            for archive, member in tar_members(tape):
+                if member.isreg():
+                    yield os.fsencode(member.name), archive.extractfile(member).read()
+        except (Damaged, OSError, MemoryError):
+            raise
+        except Exception as wrong:  # tarfile has no list of what it raises
+            raise Damaged(f"the tar archive is damaged before byte {tape.tell() + 1}: {wrong}") from None
 
 
 # Zip archives
@@ -221,19 +231,19 @@ def check_directory(file, archive):
     file.seek(ends_at)
     signature, _, _, _, count, _, at, comment_len = ZIP_END.unpack(file.read(ZIP_END.size))
     if signature != ZIP_END_SIGNATURE or comment_len != len(archive.comment):
-        raise zipfile.BadZipFile("the file does not end where the archive in it does")
+        raise Damaged("the file does not end where the archive in it does")
     if count not in (len(archive.infolist()), IN_ZIP64[0]):
-        raise zipfile.BadZipFile(f"its directory has {len(archive.infolist())} members, and its end says {count}")
+        raise Damaged(f"its directory has {len(archive.infolist())} members, and its end says {count}")
     if at not in (archive.start_dir, IN_ZIP64[1]):
-        raise zipfile.BadZipFile(f"its directory is at byte {archive.start_dir + 1} of the file, and its end says {at + 1}")
+        raise Damaged(f"its directory is at byte {archive.start_dir + 1} of the file, and its end says {at + 1}")
 
 
 def zip_data(archive, member):
     if member.flag_bits & ENCRYPTED:
-        raise zipfile.BadZipFile("it is encrypted")
+        raise Damaged("it is encrypted")
     data = archive.read(member)  # which compares the checksum
     if len(data) != member.file_size:
-        raise zipfile.BadZipFile(f"it has {len(data)} bytes, and the directory says {member.file_size}")
+        raise Damaged(f"it has {len(data)} bytes, and the directory says {member.file_size}")
     return data
 
 

@@ -9,11 +9,10 @@ import ctypes
 import os
 import re
 import stat
-import tarfile
 import zipfile
 from ctypes import byref, c_bool, c_int32, c_size_t, c_uint32, c_uint64, c_void_p
 
-from archives import compression_of, open_file, read_tar, read_zip, tar_members
+from archives import Damaged, Tape, compression_of, open_file, read_tar, read_zip, tar_members
 
 BATCH = 1024  # tokens a call
 TOKEN_WORDS = 12  # a record of a token has 96 bytes
@@ -149,9 +148,9 @@ def archive_entries(path):
         with open_file(path) as file:
             size = os.fstat(file.fileno()).st_size
             if not path.lower().endswith(ZIP) and not compression_of(file):
-                for _, one in tar_members(file):
+                for _, one in tar_members(Tape(file)):
                     if one.issparse():
-                        raise tarfile.ReadError("its bytes stand elsewhere")
+                        raise Damaged("its bytes are not as they stand there")
                     if one.isreg():
                         found.append((Entry(path, one.name, one.offset_data, one.size), FILE_WEIGHT + one.size))
     except Exception:  # whatever it is, the worker that reads the archive tells it
@@ -171,7 +170,7 @@ def inputs(entry, folder):
         else:
             name = member_name(entry.path, entry.member)
             yield name, read_member(entry, path)
-    except Exception as wrong:  # tarfile and zipfile have no list of what they raise
+    except Exception as wrong:  # zipfile has no list of what it raises
         yield name, wrong
 
 
@@ -195,7 +194,7 @@ def reason(wrong):
     """Why something was not read, in words."""
     if isinstance(wrong, MemoryError):
         return "out of memory"
-    if isinstance(wrong, (OSError, tarfile.TarError, zipfile.BadZipFile, NotImplementedError, ImportError)):
+    if isinstance(wrong, (OSError, Damaged, zipfile.BadZipFile, NotImplementedError, ImportError)):
         return getattr(wrong, "strerror", None) or str(wrong)
     return f"it is damaged: {wrong or type(wrong).__name__}"
 
