@@ -1,4 +1,4 @@
-from typing import IO, Any, List, Optional, Type, TypeVar, Union
+from typing import Any, Iterator, Optional, Type, TypeVar
 
 from yaml.composer import Composer
 from yaml.constructor import BaseConstructor, Constructor, FullConstructor, SafeConstructor, UnsafeConstructor
@@ -6,10 +6,24 @@ from yaml.parser import Parser
 from yaml.resolver import BaseResolver, Resolver
 from yaml.tokens import Token
 
-_Kind = TypeVar("_Kind")
-_Stream = Union[str, bytes, IO[str], IO[bytes]]
+from .loaders import Stream as _Stream
 
-__all__ = ["BaseLoader", "FullLoader", "Loader", "SafeLoader", "Scanning", "UnsafeLoader", "loader_like"]
+_Kind = TypeVar("_Kind")
+
+__all__ = [
+    "BaseLoader",
+    "FullLoader",
+    "Loader",
+    "SafeLoader",
+    "Scanning",
+    "UnsafeLoader",
+    "load",
+    "load_all",
+    "loader_like",
+    "replace_loaders",
+    "safe_load",
+    "safe_load_all",
+]
 
 class Scanning:
     key_limit: int
@@ -36,3 +50,8 @@ class Loader(Scanning, Parser, Composer, Constructor, Resolver):
     def __init__(self, stream: _Stream) -> None: ...
 
 def loader_like(kind: Type[_Kind]) -> Type[_Kind]: ...
+def load(stream: _Stream, Loader: Type[Any]) -> Any: ...
+def load_all(stream: _Stream, Loader: Type[Any]) -> Iterator[Any]: ...
+def safe_load(stream: _Stream) -> Any: ...
+def safe_load_all(stream: _Stream) -> Iterator[Any]: ...
+def replace_loaders() -> None: ...
