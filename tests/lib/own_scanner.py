@@ -28,7 +28,7 @@ ROWS = {
     "question mark": "a `?` in a plain scalar in flow",
     "colon": "a `:` in a plain scalar in flow before one of",
     "end of a tag": "a `,`, `[` or `]` in a tag",
-    "handle": "a `!` in a tag after other characters than letters and digits",
+    "handle": "a `!` in a tag after a character that is no letter, digit, `-` or `_`",
     "octets": "octets that `%` writes in a tag",
     "directive": "a directive that is neither `%YAML` nor `%TAG`",
     "version": "a version number of more than nine digits",
