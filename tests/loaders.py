@@ -20,6 +20,7 @@ What needs PyYAML's C loader, yamllint or mypy is skipped, and says so, if there
 
 import io
 import os
+import pathlib
 import re
 import shutil
 import signal
@@ -209,6 +210,20 @@ def documents(call, *words):
         return type(error).__name__
 
 
+def told(call, *words):
+    """What an exception of a call says."""
+    try:
+        call(*words)
+    except (TypeError, ValueError) as reason:
+        return str(reason)
+    return ""
+
+
+def limited(limit):
+    """A loader with a key limit of its own."""
+    return type("Limited", (pyyaml.SafeLoader,), {"key_limit": limit})
+
+
 def try_loading():
     """`load` and `safe_load` beside PyYAML's, and what they refuse."""
     wrong = []
@@ -229,7 +244,9 @@ def try_loading():
         refuses(yaml.composer.ComposerError, pyyaml.safe_load, "a\n--- b"),
         refuses(yaml.constructor.ConstructorError, pyyaml.safe_load, "!!python/tuple [a]"),
         refuses(TypeError, pyyaml.load, "a"),
-        refuses(TypeError, pyyaml.safe_load, None),
+        told(pyyaml.safe_load, pathlib.Path("a.yaml")).endswith("Path is given: str, bytes, what has a buffer, or an open file is wanted"),
+        told(pyyaml.load, "a", yaml.SafeLoader).startswith(f"{yaml.SafeLoader!r} is no loader of bogzhami.pyyaml; loader_like "),
+        told(limited(0), "a").endswith("key limit 0: a whole number from 1 to 65536 is wanted"),
     ]
     found = f"{len(DOCUMENTS)} texts by {len(pairs)} calls, {shown(wrong)}; {checks.count(False)} of {len(checks)} other checks wrong"
     print(f"loaders: {found}")
@@ -269,6 +286,7 @@ def try_words(room):
     usage = r"usage: python3 -m bogzhami\.pyyaml \[-m\] SCRIPT \[WORD \.\.\]\n"
     tried = [
         (["--help"], {}, rf"{usage}(?s:.*)", "", 0),
+        (["-h"], {}, rf"{usage}(?s:.*)", "", 0),
         (["--version"], {}, r"bogzhami \d+\.\d+\.\d+\n", "", 0),
         ([], {}, "", rf"{name}a program is wanted\n{usage}", 2),
         (["-c", "1"], {}, "", rf"{name}no such option: -c\n{usage}", 2),
@@ -283,7 +301,12 @@ def try_words(room):
         found = run([*package, *words], **more)
         if not (re.fullmatch(out, found[0]) and re.fullmatch(told, found[1]) and found[2] == status):
             wrong.append((words, found))
-    print(f"loaders: {len(tried)} words of bogzhami.pyyaml, {shown(wrong)}")
+    pipe = closed_pipe()
+    done = subprocess.run([sys.executable, *package, "--help"], stdout=pipe, stderr=subprocess.PIPE, env=ENVIRONMENT, timeout=60)
+    os.close(pipe)
+    if (done.stderr, done.returncode) != (b"", 3):
+        wrong.append(done)
+    print(f"loaders: {len(tried) + 1} words of bogzhami.pyyaml, {shown(wrong)}")
     return not wrong
 
 
@@ -295,7 +318,7 @@ def lint(python, words, data=b"", **more):
     more = {"stdout": subprocess.PIPE, **more}
     command = [python, "-m", "bogzhami.yamllint", "-f", "parsable", *words]
     done = subprocess.run(command, input=data, stderr=subprocess.PIPE, env=ENVIRONMENT, timeout=60, **more)
-    return done.stdout and done.stdout.decode(), done.stderr.decode(), done.returncode
+    return None if done.stdout is None else done.stdout.decode(), done.stderr.decode(), done.returncode
 
 
 def closed_pipe():

@@ -336,7 +336,7 @@ def says(kind, words, call, *arguments, **settings):
 def wrong_settings():
     """Which wrong settings and inputs are not refused in the words that say what is wanted; nothing of a file is read then."""
     encodings = "one of Encoding.ANY, Encoding.UTF8, Encoding.UTF16LE, Encoding.UTF16BE is wanted"
-    limits, inputs = "a whole number from 1 to 65536 is wanted", "str, bytes, what has a buffer, or an open file is wanted"
+    limits, inputs = "a whole number from 1 to 65536 is wanted", "str, bytes, what has a buffer, an open file, or a path is wanted"
     told = []
     for value in (9, -1, 4, "utf8", None, 1.5):
         for data in ("a", b"a"):

@@ -17,6 +17,7 @@ __version__ = "1.0.0"
 __all__ = ["Encoding", "Fault", "Mark", "ScalarStyle", "Token", "TokenType", "scan"]
 
 _STREAM_START, _VERSION_DIRECTIVE, _TAG_DIRECTIVE, _ALIAS, _ANCHOR, _TAG, _SCALAR = 1, 3, 4, 18, 19, 20, 21
+_TAKEN = "str, bytes, what has a buffer, an open file, or a path"
 _TYPES = (TokenType.STREAM_START, *TokenType)  # by number; none has the number 0
 _STYLES = (None, *ScalarStyle)
 _ENCODINGS = tuple(Encoding)
@@ -37,7 +38,7 @@ def scan(data: Input, encoding: Encoding = Encoding.ANY, key_limit: SupportsInde
     """
     chosen, limit = encoding_of(encoding), limit_of(key_limit)
     content = content_of(data)
-    setting, given = Encoding.ANY if isinstance(content, str) else chosen, bytes_of(content)
+    setting, given = Encoding.ANY if isinstance(content, str) else chosen, bytes_of(content, _TAKEN)
     return _tokens(Held(given, setting, limit), given, setting)
 
 

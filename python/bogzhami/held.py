@@ -15,6 +15,7 @@ TEXT_ROOM = 1 << 14
 PIECE = 1 << 16
 LARGEST_LIMIT = 65536
 NOWHERE = (0, 0, 0)
+TAKEN = "str, bytes, what has a buffer, or an open file"
 
 # Parts of a record: what every token has, its texts, and the version of a directive.
 SIZE = ctypes.sizeof(Record)
@@ -89,10 +90,10 @@ def content_of(data: Input) -> Content:
     return read_all(data) if hasattr(data, "read") else data
 
 
-def bytes_of(data: Content) -> bytes:
+def bytes_of(data: Content, taken: str = TAKEN) -> bytes:
     """The bytes that are scanned: those of the text in UTF-8, with a surrogate that is alone as three bytes, or a copy.
 
-    TypeError says that the input is nothing that can be scanned.
+    TypeError says that the input is nothing that can be scanned, and what is taken.
     """
     if isinstance(data, str):
         return data.encode("utf-8", "surrogatepass")
@@ -102,7 +103,7 @@ def bytes_of(data: Content) -> bytes:
         return bytes(memoryview(data))
     except TypeError:
         given = type(data).__name__
-        raise TypeError(f"{given} is given: str, bytes, what has a buffer, or an open file is wanted") from None
+        raise TypeError(f"{given} is given: {taken} is wanted") from None
 
 
 def limit_of(key_limit: SupportsIndex) -> int:

@@ -4,8 +4,8 @@
     python3 -m bogzhami.pyyaml -m MODULE [WORD ..]
 
 The program is run as by `python3 SCRIPT [WORD ..]` or `python3 -m MODULE [WORD ..]`, and its exit status is that of this
-command. It is 2 if the words are wrong or there is no such program, and 3 if there is no library; a line on standard error
-says why.
+command. It is 2 if the words are wrong or there is no such program, and 3 if there is no library or the help can not be
+written; a line on standard error says why.
 """
 
 import importlib.util
@@ -16,6 +16,7 @@ import zipfile
 from typing import List, Optional
 
 from .. import __version__
+from ..__main__ import refuse, write_out
 from ..library import LIBRARY, Missing
 from .instead import replace_loaders
 
@@ -34,11 +35,15 @@ The exit status is that of the program; 2 for wrong words, or if there is no
 such program; 3 if there is no library."""
 
 
-def refuse(status: int, *words: str) -> int:
-    """Says why the status is that, if there is someone to say it to."""
-    if sys.stderr is not None:
-        print(*words, sep="\n", file=sys.stderr)
-    return status
+def tell(text: str) -> int:
+    """Writes a text, and returns the status: 3 if that fails, of which nothing is said if a pipe is closed."""
+    try:
+        write_out(text + "\n")
+    except BrokenPipeError:
+        return 3
+    except OSError as reason:
+        return refuse(3, f"{PROGRAM}: write failed: {reason.strerror}")
+    return 0
 
 
 def missing_module(name: str) -> Optional[str]:
@@ -83,8 +88,7 @@ def main() -> int:
     words = sys.argv[1:]
     asked = {"-h": HELP, "--help": HELP, "--version": f"bogzhami {__version__}"}
     if words and words[0] in asked:
-        print(asked[words[0]])
-        return 0
+        return tell(asked[words[0]])
     is_module = words[:1] == ["-m"]
     words = words[1:] if is_module else words
     if not words or words[0].startswith("-"):
