@@ -12,7 +12,7 @@ of each Python that makes one: installed, installed as it stands, and as a wheel
 the version, the types and the library are looked at, and that all goes when it is removed; of a wheel, its list of files. The
 stubs have the names and the parameters of the modules.
 
-With PyYAML: on some 41,000 texts of the repository (bytes and `str`), tokens, marks and errors are those of its C loader, but
+With PyYAML: on some 50,000 texts of the repository (bytes and `str`), tokens, marks and errors are those of its C loader, but
 for the differences that python/README.md lists, which lib/loading.py recognises exactly; each of them has to occur. Where its
 own scanner gives the same tokens, marks have the same index, pointer and buffer, and errors show the same lines; block ends and
 the stream end of a text whose last line has no break are where its own scanner has them. Events and nodes are the same with and
@@ -31,6 +31,7 @@ import io
 import itertools
 import json
 import os
+import pathlib
 import pickle
 import re
 import shutil
@@ -73,6 +74,8 @@ FAULTS = [
     ("- abcdefghijkl\n- \ud800", "2:3: invalid Unicode character (byte 18 of the input)", "reader", 3),
     (b"\xff\xfe-\0 \0\xe9\0\x00\xd8a\0", "1:4: expected low surrogate area (byte 11 of the input)", "reader", 0),
     (b"- \xe2\x82", "1:3: incomplete UTF-8 octet sequence (byte 3 of the input)", "reader", 0),
+    # the step near it is the one before: STREAM-START and the fault, and nothing of `ab: cd`
+    (b"ab: cd\nx: \377b", "2:4: invalid leading UTF-8 octet (byte 11 of the input)", "reader", 1),
 ]
 
 # Inputs with what PyYAML's exceptions say.
@@ -131,6 +134,13 @@ def can(python, code):
 def python_that_can(code):
     """A Python that runs a line of code, or None."""
     return next((python for python in (sys.executable, DEBIAN) if can(python, code)), None)
+
+
+def make_room(room, name):
+    """A new folder in another."""
+    path = os.path.join(room, name)
+    os.mkdir(path)
+    return path
 
 
 def lines_of(data, words):
@@ -314,6 +324,52 @@ class Failing(io.RawIOBase):
         return b"a: "
 
 
+def says(kind, words, call, *arguments, **settings):
+    """Whether a call raises an exception of a kind that says just these words."""
+    try:
+        call(*arguments, **settings)
+    except kind as reason:
+        return str(reason) == words
+    return False
+
+
+def wrong_settings():
+    """Which wrong settings and inputs are not refused in the words that say what is wanted; nothing of a file is read then."""
+    encodings = "one of Encoding.ANY, Encoding.UTF8, Encoding.UTF16LE, Encoding.UTF16BE is wanted"
+    limits, inputs = "a whole number from 1 to 65536 is wanted", "str, bytes, what has a buffer, an open file, or a path is wanted"
+    told = []
+    for value in (9, -1, 4, "utf8", None, 1.5):
+        for data in ("a", b"a"):
+            told.append((data, {"encoding": value}, ValueError, f"encoding {value!r}: {encodings}"))
+    for value in (0, -1, 65537, 1 << 64, "9", None, 2.5):
+        told.append(("a", {"key_limit": value}, ValueError, f"key limit {value!r}: {limits}"))
+    for value, name in ((None, "NoneType"), (5, "int"), ([1], "list"), ({}, "dict")):
+        told.append((value, {}, TypeError, f"{name} is given: {inputs}"))
+    opened = io.BytesIO(b"a: 1")
+    told += [(opened, {"encoding": 9}, ValueError, f"encoding 9: {encodings}")]
+    told += [(opened, {"key_limit": 0}, ValueError, f"key limit 0: {limits}")]
+    wrong = [row for row in told if not says(row[2], row[3], bogzhami.scan, row[0], **row[1])]
+    return wrong + ([] if opened.read() == b"a: 1" else ["read"])
+
+
+def try_paths(room):
+    """Paths in the place of what their files have: with its encoding, and what is said if they can not be read."""
+    path, utf16 = pathlib.Path(room, "é.yaml"), pathlib.Path(room, "utf-16.yaml")
+    path.write_bytes("- é\r\n- b".encode())
+    utf16.write_bytes("- é".encode("utf-16-le"))
+    entries = {entry.name: entry for entry in os.scandir(room)}
+    checks = [
+        list(bogzhami.scan(path)) == list(bogzhami.scan(path.read_bytes())),
+        list(bogzhami.scan(entries["é.yaml"])) == list(bogzhami.scan(path)),
+        [token.value for token in bogzhami.scan(utf16, bogzhami.Encoding.UTF16LE) if token.value] == ["é"],
+        refuses(FileNotFoundError, bogzhami.scan, pathlib.Path(room, "none.yaml")),
+        refuses(IsADirectoryError, bogzhami.scan, pathlib.Path(room)),
+        [token.value for token in bogzhami.scan(str(path)) if token.value] == [str(path)],
+    ]
+    print(f"python: paths, {checks.count(False)} of {len(checks)} checks wrong {[n for n, good in enumerate(checks) if not good] or ''}")
+    return all(checks)
+
+
 def try_settings():
     """Kinds of input, settings, and texts that are not UTF-8."""
     utf16, given = bogzhami.Encoding.UTF16LE, bytearray(b"a: 1")
@@ -330,6 +386,7 @@ def try_settings():
         "zero": [token.value for token in bogzhami.scan("!a%00b b") if token.value],
         "style": [token.style for token in bogzhami.scan("- a\n- |\n b\n") if token.style],
         "limit": len(list(bogzhami.scan("'ab': 1", key_limit=4))),
+        "number": len(list(bogzhami.scan(b"'ab': 1", encoding=1, key_limit=4))),
         "files": [token.value for data in ("- é", "- é".encode()) for token in bogzhami.scan(Slow(data)) if token.value],
         "encoded": [token.value for token in bogzhami.scan(io.BytesIO(b"a\0"), encoding=utf16) if token.value],
         "text file": [token.value for token in bogzhami.scan(io.StringIO("é"), encoding=utf16) if token.value],
@@ -344,6 +401,7 @@ def try_settings():
         "zero": ["a\0b", "b"],
         "style": [bogzhami.ScalarStyle.PLAIN, bogzhami.ScalarStyle.LITERAL],
         "limit": 8,
+        "number": 8,
         "files": ["é"] * 2,
         "encoded": ["a"],
         "text file": ["é"],
@@ -353,15 +411,12 @@ def try_settings():
     refused = [
         not opened.closed and not opened.read(),
         refuses(OSError, bogzhami.scan, Failing()),
-        refuses(ValueError, bogzhami.scan, b"", key_limit=0),
-        refuses(ValueError, bogzhami.scan, b"", key_limit=65537),
-        refuses(ValueError, bogzhami.scan, b"", encoding=4),
-        refuses(TypeError, bogzhami.scan, None),
         refuses(bogzhami.Fault, list, bogzhami.scan("'abc': 1", key_limit=4)),
     ]
     wrong = {name: value for name, value in values.items() if value != wanted[name]}
-    count = len(wrong) + refused.count(False)
-    print(f"python: {len(values)} kinds of input and {len(refused)} refusals, {count} wrong {wrong or ''}")
+    told = wrong_settings()
+    count = len(wrong) + refused.count(False) + len(told)
+    print(f"python: {len(values)} kinds of input and {len(refused)} refusals, {count} wrong {wrong or ''} {told or ''}")
     return not count
 
 
@@ -516,9 +571,7 @@ def try_installed(room):
     top = copy_of_checkout(room)
     wrong, told = wrong_in_checkout(sys.executable, top), []
     for number, python in enumerate(dict.fromkeys(filter(os.path.exists, (sys.executable, DEBIAN)))):
-        own = os.path.join(room, f"pip{number}")
-        os.mkdir(own)
-        found = wrong_with_pip(python, top, own)
+        found = wrong_with_pip(python, top, make_room(room, f"pip{number}"))
         told.append(f"pip of {python}: {'skipped, it makes no virtual environment' if found is None else found or 'installed'}")
         wrong += found or []
     with open(os.path.join(FOLDER, "LICENSE"), "rb") as ours, open(os.path.join(TOP, "LICENSE"), "rb") as other:
@@ -541,7 +594,7 @@ def try_example():
         if done.stdout != wanted:
             wrong.append((code, done.stdout, done.stderr))
     print(f"python: {len(blocks)} programs of README.md, {len(wrong)} wrong {wrong or ''}")
-    return not wrong and len(blocks) >= 2
+    return not wrong and len(blocks) >= 6
 
 
 def every_input():
@@ -907,6 +960,7 @@ def main():
             try_statuses(sys.argv[1] if len(sys.argv) > 1 else None),
             try_faults(),
             try_settings(),
+            try_paths(make_room(room, "paths")),
             try_ends(),
             try_memory(),
             try_threads(),

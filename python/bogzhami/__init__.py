@@ -7,40 +7,39 @@ A fault, which ends the tokens, is raised as `Fault`. `bogzhami.pyyaml` has load
 runs yamllint over this scanner, and `python3 -m bogzhami` lists tokens.
 """
 
-from typing import Iterator, Union
+from typing import Iterator, SupportsIndex
 
-from .held import Batch, Held, Readable, Refusal, bytes_of, read_all
-from .tokens import Encoding, Fault, Mark, ScalarStyle, Text, Token, TokenType, fault_of
+from .held import Batch, Held, Input, Refusal, bytes_of, content_of, limit_of
+from .tokens import Encoding, Fault, Mark, ScalarStyle, Text, Token, TokenType, encoding_of, fault_of
 
 __version__ = "1.0.0"
 
 __all__ = ["Encoding", "Fault", "Mark", "ScalarStyle", "Token", "TokenType", "scan"]
 
 _STREAM_START, _VERSION_DIRECTIVE, _TAG_DIRECTIVE, _ALIAS, _ANCHOR, _TAG, _SCALAR = 1, 3, 4, 18, 19, 20, 21
-_TYPES = (None, *TokenType)
+_TAKEN = "str, bytes, what has a buffer, an open file, or a path"
+_TYPES = (TokenType.STREAM_START, *TokenType)  # by number; none has the number 0
 _STYLES = (None, *ScalarStyle)
 _ENCODINGS = tuple(Encoding)
 
 
-def scan(
-    data: Union[str, bytes, bytearray, memoryview, Readable],
-    encoding: Encoding = Encoding.ANY,
-    key_limit: int = 1024,
-) -> Iterator[Token]:
+def scan(data: Input, encoding: Encoding = Encoding.ANY, key_limit: SupportsIndex = 1024) -> Iterator[Token]:
     """Yields the tokens of an input, up to the stream end or the fault, which is raised after the tokens before it.
 
     The input is scanned as its tokens are taken, 256 at a time, so what is not asked for is not scanned. A `str` is scanned
     as UTF-8, whatever encoding is set, and may begin with U+FEFF as a file does; bytes that can change are copied first. A
-    file is read to its end at once, and is not closed. The key limit is how many bytes a simple key may have, 1 to 65536.
+    file is read to its end at once, and is not closed. A path, such as `pathlib.Path`, stands for the bytes of its file;
+    a `str` is always a text. The key limit is how many bytes a simple key may have, 1 to 65536.
     Whoever stops early need not do anything: the scanner is freed with the generator, or when that is closed. Several
     threads may scan at once, each with a generator of its own.
 
-    Raises Fault; ValueError, at once, for wrong settings; MemoryError if memory is refused.
+    Raises Fault; ValueError, at once, for wrong settings; TypeError for what can not be scanned; OSError if a file can not
+    be read; MemoryError if memory is refused.
     """
-    text = read_all(data) if hasattr(data, "read") else data
-    setting = Encoding.ANY if isinstance(text, str) else Encoding(encoding)
-    given = bytes_of(text)
-    return _tokens(Held(given, setting, key_limit), given, setting)
+    chosen, limit = encoding_of(encoding), limit_of(key_limit)
+    content = content_of(data)
+    setting, given = Encoding.ANY if isinstance(content, str) else chosen, bytes_of(content, _TAKEN)
+    return _tokens(Held(given, setting, limit), given, setting)
 
 
 def _tokens(held: Held, data: bytes, setting: Encoding) -> Iterator[Token]:

@@ -1,14 +1,10 @@
-from typing import Iterator, Union
+from typing import Iterator, SupportsIndex
 
-from .held import Readable
+from .held import Input
 from .tokens import Encoding as Encoding, Fault as Fault, Mark as Mark, ScalarStyle as ScalarStyle, Token as Token
 from .tokens import TokenType as TokenType
 
 __version__: str
 __all__ = ["Encoding", "Fault", "Mark", "ScalarStyle", "Token", "TokenType", "scan"]
 
-def scan(
-    data: Union[str, bytes, bytearray, memoryview, Readable],
-    encoding: Encoding = ...,
-    key_limit: int = ...,
-) -> Iterator[Token]: ...
+def scan(data: Input, encoding: Encoding = ..., key_limit: SupportsIndex = ...) -> Iterator[Token]: ...

@@ -25,7 +25,7 @@ LIMIT is the key limit, 1 to 65536; without it, it is 1024.
 
 The exit status is 0; 1 if the last line is a fault; 2 for wrong words; 3 if a
 read or a write failed, there is no memory for the input, or there is no library."""
-STYLES = (None, "plain", "single", "double", "literal", "folded")
+STYLES = ("", "plain", "single", "double", "literal", "folded")
 LINES = 1000  # that are written at once
 SETTINGS = {encoding.name.lower(): encoding for encoding in Encoding}
 
@@ -50,7 +50,7 @@ def place(mark: Mark) -> str:
 
 
 def fault_line(fault: Fault) -> str:
-    if fault.kind == "reader":
+    if fault.mark is None or fault.context_mark is None:
         return f"FAULT reader {fault.offset} {fault.value} {fault.problem}"
     return f"FAULT scanner {place(fault.context_mark)} {place(fault.mark)} {fault.context or '-'}; {fault.problem}"
 

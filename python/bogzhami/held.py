@@ -1,9 +1,11 @@
 """A scanner of one input that is held between calls, and gives its tokens in batches of records."""
 
 import ctypes
+import operator
+import os
 import struct
 import threading
-from typing import Iterator, NamedTuple, Optional, Protocol, Tuple, Union
+from typing import Any, Iterator, List, NamedTuple, Optional, Protocol, SupportsIndex, Tuple, Union, cast
 
 from .library import FAULT, LIBRARY, MEMORY_ERROR, NO_MEMORY, NO_ROOM, READER_ERROR, WRONG
 from .library import Answer, Handle, Place, Record
@@ -11,6 +13,9 @@ from .library import Answer, Handle, Place, Record
 BATCH = 256
 TEXT_ROOM = 1 << 14
 PIECE = 1 << 16
+LARGEST_LIMIT = 65536
+NOWHERE = (0, 0, 0)
+TAKEN = "str, bytes, what has a buffer, or an open file"
 
 # Parts of a record: what every token has, its texts, and the version of a directive.
 SIZE = ctypes.sizeof(Record)
@@ -23,13 +28,13 @@ Fields = Tuple[int, int, int, int, int, int, int, int, int, int]
 
 
 class Refusal(NamedTuple):
-    """The fault as the library tells it. A mark is index, line and column; a reader's fault has none."""
+    """The fault as the library tells it. A mark is index, line and column; those of a reader's fault are zeros."""
 
     is_reader: bool
     problem: str
     context: Optional[str]
-    mark: Optional[Tuple[int, int, int]]
-    context_mark: Optional[Tuple[int, int, int]]
+    mark: Tuple[int, int, int]
+    context_mark: Tuple[int, int, int]
     offset: int
     value: int
 
@@ -42,7 +47,7 @@ class Batch(NamedTuple):
 
     def fields(self) -> Iterator[Fields]:
         """Of each record: type, detail, where its texts are, the length of the first, index, line and column of both marks."""
-        return FIELDS.iter_unpack(self.records)
+        return cast("Iterator[Fields]", FIELDS.iter_unpack(self.records))
 
     def texts_of(self, number: int) -> Tuple[bytes, bytes]:
         """Both texts of the record of that number."""
@@ -51,7 +56,8 @@ class Batch(NamedTuple):
 
     def version_of(self, number: int) -> Tuple[int, int]:
         """The version in the record of that number."""
-        return VERSION.unpack_from(self.records, SIZE * number)
+        major, minor = VERSION.unpack_from(self.records, SIZE * number)
+        return major, minor
 
 
 class Readable(Protocol):
@@ -61,21 +67,54 @@ class Readable(Protocol):
         ...
 
 
+Content = Union[str, bytes, bytearray, memoryview]
+Input = Union[Content, Readable, "os.PathLike[str]"]
+
+
 def read_all(stream: Readable) -> Union[str, bytes]:
     """All that is read from a file, up to its end."""
     piece = stream.read(PIECE)
-    pieces = [piece]
+    pieces: List[Any] = [piece]
     while piece:
         piece = stream.read(PIECE)
         pieces.append(piece)
-    return pieces[-1].join(pieces)
+    text: Union[str, bytes] = pieces[-1].join(pieces)
+    return text
 
 
-def bytes_of(data: Union[str, bytes, bytearray, memoryview]) -> bytes:
-    """The bytes that are scanned: those of the text in UTF-8, with a surrogate that is alone as three bytes, or a copy."""
+def content_of(data: Input) -> Content:
+    """What is scanned: all of the file that a path names or that is open, or else the input itself."""
+    if isinstance(data, os.PathLike):
+        with open(data, "rb") as file:
+            return file.read()
+    return read_all(data) if hasattr(data, "read") else data
+
+
+def bytes_of(data: Content, taken: str = TAKEN) -> bytes:
+    """The bytes that are scanned: those of the text in UTF-8, with a surrogate that is alone as three bytes, or a copy.
+
+    TypeError says that the input is nothing that can be scanned, and what is taken.
+    """
     if isinstance(data, str):
         return data.encode("utf-8", "surrogatepass")
-    return data if type(data) is bytes else bytes(memoryview(data))
+    if type(data) is bytes:
+        return data
+    try:
+        return bytes(memoryview(data))
+    except TypeError:
+        given = type(data).__name__
+        raise TypeError(f"{given} is given: {taken} is wanted") from None
+
+
+def limit_of(key_limit: SupportsIndex) -> int:
+    """The key limit as a number. ValueError says that it is none."""
+    try:
+        limit = operator.index(key_limit)
+    except TypeError:
+        limit = 0
+    if not 0 < limit <= LARGEST_LIMIT:
+        raise ValueError(f"key limit {key_limit!r}: a whole number from 1 to {LARGEST_LIMIT} is wanted")
+    return limit
 
 
 def place_of(mark: Place) -> Tuple[int, int, int]:
@@ -88,20 +127,19 @@ class Held:
     Any number of threads may use it, one after the other: a call waits until that of another thread has ended.
     """
 
-    def __init__(self, data: bytes, encoding: int, key_limit: int) -> None:
+    def __init__(self, data: bytes, encoding: int, key_limit: SupportsIndex) -> None:
         """ValueError says that there is no such encoding or key limit, MemoryError that memory was refused."""
-        if not (0 <= encoding < 4 and 0 < key_limit <= 65536):
-            raise ValueError(f"encoding {encoding} or key limit {key_limit}: the limit is from 1 to 65536")
+        limit = limit_of(key_limit)
         self._lock = threading.Lock()
         self._handle = Handle()
         self._input = (ctypes.byref(self._handle), data, len(data))
         self._records = ctypes.create_string_buffer(SIZE * BATCH)
         self._texts = ctypes.create_string_buffer(TEXT_ROOM)
         self._answer = Answer()
-        status = LIBRARY.bogzhami_open(*self._input, encoding, key_limit)
+        status = LIBRARY.bogzhami_open(*self._input, encoding, limit)
         self._refusal: Union[Refusal, MemoryError, None] = None
         if status == WRONG:
-            raise ValueError(f"encoding {encoding} or key limit {key_limit}")
+            raise ValueError(f"encoding {encoding} or key limit {limit}")
         if status == NO_MEMORY:
             raise MemoryError("the scanner was refused memory")
 
@@ -137,7 +175,8 @@ class Held:
 
     def _read(self) -> int:
         rooms = self._records, BATCH, self._texts, len(self._texts)
-        return LIBRARY.bogzhami_next(*self._input, *rooms, ctypes.byref(self._answer))
+        status: int = LIBRARY.bogzhami_next(*self._input, *rooms, ctypes.byref(self._answer))
+        return status
 
     def _given(self) -> Batch:
         """The records and the texts that the last call has put."""
@@ -154,6 +193,6 @@ class Held:
         problem = bytes(words[problem_at:context_at]).decode("ascii")
         context = bytes(words[context_at : context_at + answer.context_len]).decode("ascii")
         if answer.error == READER_ERROR:
-            return Refusal(True, problem, None, None, None, answer.problem_offset, answer.problem_value)
+            return Refusal(True, problem, None, NOWHERE, NOWHERE, answer.problem_offset, answer.problem_value)
         mark, context_mark = place_of(answer.problem_mark), place_of(answer.context_mark)
         return Refusal(False, problem, context or None, mark, context_mark, 0, 0)

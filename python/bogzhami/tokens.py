@@ -18,6 +18,15 @@ class Encoding(enum.IntEnum):
     UTF16BE = 3
 
 
+def encoding_of(setting: int) -> Encoding:
+    """The encoding that a setting names. ValueError says which there are."""
+    try:
+        return Encoding(setting)
+    except ValueError:
+        names = ", ".join(f"Encoding.{encoding.name}" for encoding in Encoding)
+        raise ValueError(f"encoding {setting!r}: one of {names} is wanted") from None
+
+
 class ScalarStyle(enum.IntEnum):
     """How a scalar is written."""
 
@@ -57,7 +66,7 @@ class TokenType(enum.IntEnum):
 class Mark(NamedTuple):
     """A place in the text. Whatever the encoding of the input, the index counts bytes of the text in UTF-8."""
 
-    index: int  # how many bytes come before it
+    index: int  # type: ignore[assignment]  # how many bytes come before it; a tuple has a method of this name
     line: int  # how many line breaks end before it
     column: int  # how many characters come between the last of these breaks and it
 

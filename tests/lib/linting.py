@@ -10,6 +10,7 @@ import sys
 sys.path.insert(0, sys.argv[1])
 import yaml
 from bogzhami.pyyaml import BaseLoader
+from bogzhami.pyyaml.placed import PlacedLoader
 from yamllint import linter
 from yamllint.config import YamlLintConfig
 
@@ -43,4 +44,4 @@ def tokens(text, loader):
 while line := sys.stdin.buffer.readline():
     given = sys.stdin.buffer.read(int(line)).decode()
     ours, own = tokens(given, BaseLoader), tokens(given, OWN)
-    print(json.dumps([messages(given, OWN), messages(given, BaseLoader), ours == own and ours[-1] is not None]))
+    print(json.dumps([messages(given, OWN), messages(given, PlacedLoader), ours == own and ours[-1] is not None]))

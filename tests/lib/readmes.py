@@ -29,6 +29,7 @@ LEFT_OUT = {
     "dask-worker": "it runs until it is ended",
     "python3 uses/many/check.py --scheduler tcp://HOST": "tests/many.py asks a scheduler of its own",
     "BOGZHAMI_LIB_DIR=/path/to": "it is for a crate of the reader's",
+    "python3 -m bogzhami.pyyaml": "it is for a program of the reader's; tests/loaders.py runs others",
 }
 
 # Beginnings of commands that may end with 1, since their example has mistakes.
@@ -44,7 +45,7 @@ NEEDS = {
     "./package": "command -v git && command -v dpkg-source && command -v rustc && test -f /usr/include/yaml.h",
     "python3 ": "command -v python3", "libbogzhami-dev/": "test -d /usr/share/doc/libbogzhami-dev",
     "man ": "command -v man", "cmake ": "command -v cmake", "python3 -m venv": "python3 -c 'import ensurepip'",
-    "bin/env/": "python3 -c 'import ensurepip'",
+    "../bogzhami-env/": "python3 -c 'import ensurepip'",
 }
 LISTS = "printf 'a: 1' | "
 SMALL = "".join(line + "\n" for words, data, lines in rows() if (words, data) == (["scan", "any"], b"a: 1") for line in lines)
@@ -122,9 +123,16 @@ def make_checkout(place, copy, program, git):
                  "KIT_TOP": top, "KIT_WATCHED": ""}
 
 
+def links_in(top):
+    """The links in a checkout, but for those in folders of what is built, and in git's own."""
+    for folder, folders, names in os.walk(top):
+        folders[:] = [name for name in folders if name not in ("out", "dist", "target", ".git")]
+        yield from (os.path.join(folder, name) for name in [*folders, *names] if os.path.islink(os.path.join(folder, name)))
+
+
 def try_checkout(place, copy, program, git):
     """Runs the READMEs of the repository in a checkout: what is wrong, or None, how many commands are run, and why others are not.
-    They leave nothing there that git sees, so ./package, which comes last, takes it."""
+    They leave nothing there that git sees, so ./package, which comes last, takes it; and no link, at which a kit might stop."""
     git = git if shutil.which("git") else None
     top, how = make_checkout(place, copy, program, git)
     count, every = 0, []
@@ -135,4 +143,6 @@ def try_checkout(place, copy, program, git):
         if wrong:
             return wrong, count, every
     new = git(place.outer(top), "status", "--porcelain") if git else ""
-    return new and f"git sees what they leave: {new}", count, every
+    links = sorted(links_in(place.outer(top)))
+    left = f"git sees what they leave: {new}" if new else f"they leave links: {links}" if links else None
+    return left, count, every

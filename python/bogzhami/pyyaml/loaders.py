@@ -1,6 +1,6 @@
 """The loaders, and the scanner that PyYAML's parser asks for tokens."""
 
-from typing import Any, List, Optional, Type, TypeVar
+from typing import Any, List, Optional, Type, TypeVar, Union
 
 from yaml.constructor import BaseConstructor, Constructor, FullConstructor, SafeConstructor, UnsafeConstructor
 from yaml.error import YAMLError
@@ -9,7 +9,7 @@ from yaml.resolver import BaseResolver, Resolver
 from yaml.scanner import Scanner, ScannerError
 from yaml.tokens import ScalarToken, Token
 
-from ..held import Batch, Held, Refusal, bytes_of, read_all
+from ..held import Batch, Content, Held, Readable, Refusal, bytes_of, read_all
 from ..text import CODECS
 from .marks import Source
 from .shortcuts import QuickComposer, QuickParser
@@ -17,6 +17,7 @@ from .tokens import Maker
 
 ANY = 0
 Kind = TypeVar("Kind")
+Stream = Union[Content, Readable]
 
 
 class Scanning:
@@ -29,12 +30,11 @@ class Scanning:
     # how many bytes a simple key may have, 1 to 65536
     key_limit = 1024
 
-    def __init__(self, stream: Any) -> None:
-        self.name, is_shown = "<file>", True
-        if hasattr(stream, "read"):
-            self.name, is_shown, data = getattr(stream, "name", "<file>"), False, read_all(stream)
-        else:
-            self.name, data = "<unicode string>" if isinstance(stream, str) else "<byte string>", stream
+    def __init__(self, stream: Stream) -> None:
+        is_shown, data = not hasattr(stream, "read"), read_all(stream) if hasattr(stream, "read") else stream
+        self.name = "<unicode string>" if isinstance(stream, str) else "<byte string>"
+        if not is_shown:
+            self.name = getattr(stream, "name", "<file>")
         self._is_text = isinstance(data, str)
         given = bytes_of(data)
         self._source = Source(self.name, given, is_shown)
@@ -69,7 +69,7 @@ class Scanning:
 
     def dispose(self) -> None:
         """Frees the scanner; there are no more tokens."""
-        super().dispose()
+        super().dispose()  # type: ignore[misc]  # of the parser, which comes after it in each loader
         self._waiting.clear()
         self._error = None
         if self._held is not None:
@@ -108,7 +108,7 @@ class Scanning:
 class BaseLoader(Scanning, QuickParser, QuickComposer, BaseConstructor, BaseResolver):
     """As `yaml.BaseLoader`: every scalar is a `str`."""
 
-    def __init__(self, stream: Any) -> None:
+    def __init__(self, stream: Stream) -> None:
         Scanning.__init__(self, stream)
         QuickParser.__init__(self)
         QuickComposer.__init__(self)
@@ -119,7 +119,7 @@ class BaseLoader(Scanning, QuickParser, QuickComposer, BaseConstructor, BaseReso
 class SafeLoader(Scanning, QuickParser, QuickComposer, SafeConstructor, Resolver):
     """As `yaml.SafeLoader`: the types of YAML, and no others."""
 
-    def __init__(self, stream: Any) -> None:
+    def __init__(self, stream: Stream) -> None:
         Scanning.__init__(self, stream)
         QuickParser.__init__(self)
         QuickComposer.__init__(self)
@@ -130,7 +130,7 @@ class SafeLoader(Scanning, QuickParser, QuickComposer, SafeConstructor, Resolver
 class FullLoader(Scanning, QuickParser, QuickComposer, FullConstructor, Resolver):
     """As `yaml.FullLoader`: the types of YAML, and those of Python that PyYAML takes for harmless."""
 
-    def __init__(self, stream: Any) -> None:
+    def __init__(self, stream: Stream) -> None:
         Scanning.__init__(self, stream)
         QuickParser.__init__(self)
         QuickComposer.__init__(self)
@@ -141,7 +141,7 @@ class FullLoader(Scanning, QuickParser, QuickComposer, FullConstructor, Resolver
 class UnsafeLoader(Scanning, QuickParser, QuickComposer, UnsafeConstructor, Resolver):
     """As `yaml.UnsafeLoader`: any object of Python, so an input can do anything that Python can."""
 
-    def __init__(self, stream: Any) -> None:
+    def __init__(self, stream: Stream) -> None:
         Scanning.__init__(self, stream)
         QuickParser.__init__(self)
         QuickComposer.__init__(self)
@@ -152,7 +152,7 @@ class UnsafeLoader(Scanning, QuickParser, QuickComposer, UnsafeConstructor, Reso
 class Loader(Scanning, QuickParser, QuickComposer, Constructor, Resolver):
     """As `yaml.Loader`, which is `yaml.UnsafeLoader` by its older name."""
 
-    def __init__(self, stream: Any) -> None:
+    def __init__(self, stream: Stream) -> None:
         Scanning.__init__(self, stream)
         QuickParser.__init__(self)
         QuickComposer.__init__(self)
@@ -181,9 +181,11 @@ def loader_like(kind: Type[Kind]) -> Type[Kind]:
     """
     if not (isinstance(kind, type) and issubclass(kind, Reader) and issubclass(kind, Scanner)):
         raise TypeError(f"{kind!r} has not PyYAML's reader and scanner in Python, as yaml.SafeLoader has")
+    if Scanning in kind.__mro__:
+        return kind  # this function has made it, or a class that it is derived from
 
-    class Like(kind, Replacing):  # type: ignore[misc, valid-type]
-        def __init__(self, stream: Any, *words: Any, **named: Any) -> None:
+    class Like(kind, Replacing):  # type: ignore[misc, valid-type]  # whose base is not known before
+        def __init__(self, stream: Stream, *words: Any, **named: Any) -> None:
             Scanning.__init__(self, stream)
             super().__init__(stream, *words, **named)
 

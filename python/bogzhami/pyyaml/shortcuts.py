@@ -60,6 +60,8 @@ class QuickParser(Parser):
 class QuickComposer(Composer):
     """The composer. A scalar's event becomes its node at once, if no resolver looks at paths."""
 
+    current_event: Optional[Event]  # of the parser
+
     def compose_node(self, parent: Optional[Node], index: Any) -> Optional[Node]:
         event = self.current_event or self.peek_event()
         if not isinstance(event, ScalarEvent) or event.anchor is not None or self.yaml_path_resolvers:

@@ -1,6 +1,6 @@
 """The tokens of a batch as PyYAML's objects."""
 
-from typing import List
+from typing import Any, List
 
 from yaml import tokens
 from yaml.scanner import ScannerError
@@ -51,7 +51,7 @@ class Maker:
         # objects are made without a call of __init__, and their parts set one by one: this is most of what a scan takes
         new, source, before, put = object.__new__, self.source, len(made), made.append
         is_ascii = batch.texts.isascii()
-        texts = batch.texts.decode() if is_ascii else batch.texts
+        texts: Any = batch.texts.decode() if is_ascii else batch.texts
         end_mark, last, open_end = self.last_mark, self.last_mark.place, source.open_end
         for number, detail, at, size, start, line, column, end, end_line, end_column in batch.fields():
             if start == last:
