@@ -12,5 +12,3 @@ mod deep_tests;
 mod kept_tests;
 #[cfg(test)]
 mod parser_tests;
-#[cfg(test)]
-mod slot_tests;

@@ -21,7 +21,7 @@ no_parser = record {
     limit = 0;
     slots = record {
       outer = record { ptr = null_ptr; len = 0; cap = 0; alloc = heap; items = []; ok = (refl, lit≤ tt); small = lit< tt };
-      empty_below = 0;
+      not_simple_keys = 0;
       top = None;
       awaited = 0;
     };

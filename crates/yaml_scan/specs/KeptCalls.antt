@@ -28,16 +28,20 @@ abbrev pub HasNoMoreRoom : (ℕ → ℕ → Type 0) → Parser → Type 0
 HasNoMoreRoom lacks q = (q.session.over ≡ true) ⊎ lacks 1 0
     ⊎ ((t : yaml_token_t) × (token_peeked q ≡ Some t) × lacks 1 (said_len t.token_data))
 
--- The next tokens went to a sink, and q stands after them, in the same input.
+-- The next tokens went to a sink, and q stands after them, in the same input. After the end of the session there are
+-- none, and q is p.
 pub record GivesMore (p q : Parser) (took : List yaml_token_t → Type 0) : Type 0 where
   pub input : q.input ≡ p.input
   pub tokens : List yaml_token_t
   pub given : took tokens
   pub on : GoesOnBy p tokens q q.session.over
   pub first : ComesFirst (token_peeked p) tokens q
+  pub at_end : p.session.over ≡ true → (tokens ≡ []) × (q ≡ p)
 
--- The next tokens went to a sink, and then a call found this fault, which ends the session. The input is the same.
+-- The next tokens went to a sink, and then a call found this fault, which ends the session: it was not over before. The
+-- input is the same.
 pub record GivesToFault (call : Call) (p q : Parser) (took : List yaml_token_t → Type 0) (fault : Fault) : Type 0 where
+  pub still_open : p.session.over ≡ false
   pub input : q.input ≡ p.input
   pub tokens : List yaml_token_t
   pub given : took tokens

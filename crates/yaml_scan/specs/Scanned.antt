@@ -1,12 +1,13 @@
 -- A parser of which only tokens were taken.
 use Rattle.std.specs.Prelude.{◌≡◌, ℕ, ◌≤◌, ◌<◌, Bool, true, false, List, [], ◌∷◌, ◌++◌, map, take, length, Option, None}
-use Rattle.std.specs.Prelude.{Some}
+use Rattle.std.specs.Prelude.{Some, Result, MatchResult, option_map}
 use Rattle.std.specs.List.{list_any}
+use Rattle.yaml_text.specs.declared.fault.yaml_fault_t.{yaml_fault_t}
 use Rattle.yaml_text.specs.declared.types.yaml_encoding_t.{yaml_encoding_t}
 use Rattle.yaml_text.specs.declared.token.yaml_token_t.{yaml_token_t as code_token_t}
 use Rattle.yaml_text.specs.Token.{token_of}
 use Rattle.yaml_scan.specs.Settled.{tokens_of}
-use Rattle.yaml_scan.specs.Token.{yaml_token_t, type_of}
+use Rattle.yaml_scan.specs.Token.{yaml_token_t, empty, type_of}
 use Rattle.yaml_scan.specs.TokenTypes.{is_last_type}
 use Rattle.yaml_scan.specs.Groups.{handed_out}
 use Rattle.yaml_scan.specs.Decoded.{decoded_input}
@@ -45,3 +46,9 @@ abbrev pub ReadsNext : Parser → Parser → (List yaml_token_t → Type 0) → 
 ReadsNext p q took None = (tokens : List yaml_token_t) × (0 < length tokens) × took tokens × GoesOnBy p tokens q false
 ReadsNext p q took (Some t) = took []
     × GoesOnBy p (token_of t ∷ []) q (is_last_type (type_of (token_of t).token_data))
+
+-- After the end of its session a parser stays as it is: a sink takes no token, and the empty one is returned.
+abbrev pub ReadsNone
+    : Parser → Parser → (List yaml_token_t → Type 0) → Result (Option code_token_t) yaml_fault_t → Type 0
+ReadsNone p q took result = p.session.over ≡ true
+    → MatchResult result (λ o. (option_map token_of o ≡ Some empty) × took [] × (q ≡ p)) (λ _. ⊥)

@@ -15,7 +15,6 @@ pub mod Handed
 pub mod Given
 pub mod MoreTaken
 pub mod Ready
-pub mod Passed
 pub mod Shown
 pub mod Kept
 pub mod Sent

@@ -50,7 +50,7 @@ pub(crate) struct slots_t {
     /// Those of the depths below the present one.
     pub outer: Vec<Option<candidate_t>>,
     /// How many of the lowest of these are empty: no slot below holds a candidate.
-    pub empty_below: usize,
+    pub not_simple_keys: usize,
     /// The candidate of the present depth.
     pub top: Option<candidate_t>,
     /// The step of the lowest candidate, or 0.
@@ -64,7 +64,7 @@ impl slots_t {
         requires { vec_len self.old.outer < vec_capacity self.old.outer }
         ensures outer { self.new.outer.items ≡ self.old.outer.items ++ self.old.top ∷ [] }
         ensures top { self.new.top ≡ None }
-        ensures empty { self.new.empty_below ≡ self.old.empty_below }
+        ensures empty { self.new.not_simple_keys ≡ self.old.not_simple_keys }
         ensures awaited { self.new.awaited ≡ self.old.awaited }
     {
         let held = std::mem::replace(&mut self.top, None);
@@ -77,7 +77,7 @@ impl slots_t {
         requires { kinds.is_flow_start kind ≡ true → vec_len self.old.outer < vec_capacity self.old.outer }
         ensures outer { self.new.outer.items ≡ nested_outer kind self.old.outer.items self.old.top }
         ensures top { self.new.top ≡ nested_top kind self.old.outer.items self.old.top }
-        ensures empty { self.new.empty_below ≡ self.old.empty_below }
+        ensures empty { self.new.not_simple_keys ≡ self.old.not_simple_keys }
         ensures awaited { self.new.awaited ≡ self.old.awaited }
     {
         if is_flow_start(kind) {

@@ -151,10 +151,10 @@ fn has_known_slot(state: &state_t, step: step_t, reach: yaml_mark_t) -> bool
 /// Whether the lowest candidate is one of an outer depth, and live at a mark. Then all of them are.
 #[inline(always)]
 pub(crate) fn is_outer_live(slots: &slots_t, limit: u64, mark: yaml_mark_t) -> bool
-    ensures { result ≡ true → (h : Held) × ((slice_get slots.now.outer.items slots.now.empty_below
+    ensures { result ≡ true → (h : Held) × ((slice_get slots.now.outer.items slots.now.not_simple_keys
         ≡ Some (Some h)) × (is_live limit mark h ≡ true)) }
 {
-    match slots.outer.get(slots.empty_below) {
+    match slots.outer.get(slots.not_simple_keys) {
         None => false,
         Some(slot) => match *slot {
             None => false,
@@ -209,7 +209,7 @@ fn followed_by(state: &state_t, sparing: bool, step: step_t, reach: yaml_mark_t)
 fn may_follow(state: &state_t, waits: bool, there: yaml_mark_t) -> bool
     ensures far { result ≡ true → there.index < state.now.near }
     ensures live { result ≡ true → waits ≡ true → (h : Held) × ((slice_get state.now.slots.outer.items
-        state.now.slots.empty_below ≡ Some (Some h)) × (is_live state.now.limit there h ≡ true)) }
+        state.now.slots.not_simple_keys ≡ Some (Some h)) × (is_live state.now.limit there h ≡ true)) }
 {
     there.index < state.near && (!waits || is_outer_live(&state.slots, state.limit, there))
 }

@@ -6,7 +6,7 @@ ghost use Rattle.yaml_text.specs.Fault.{fault_of};
 ghost use Rattle.yaml_text.specs.Token.{Token, token_of};
 ghost use Rattle.yaml_text.specs.Text.{Text};
 ghost use Rattle.yaml_scan.specs.All.{ReadsAll, AllOf, EndNoMore, EndAll, TellLexemes, TellFault, depth_of};
-ghost use Rattle.yaml_scan.specs.Scanned.{ReadsNext, Scanned};
+ghost use Rattle.yaml_scan.specs.Scanned.{ReadsNext, ReadsNone, Scanned};
 ghost use Rattle.yaml_scan.specs.Decoded.{decoded_input};
 ghost use Rattle.yaml_scan.specs.Headline.{Calls};
 ghost use Rattle.yaml_scan.specs.Session.Call.{SCAN};
@@ -233,6 +233,8 @@ fn put_or_return<S: yaml_token_sink_t>(sink: &mut S, token: yaml_token_t) -> Opt
 /// those that [`yaml_scan_to`](crate::yaml_scan_to) gives, in order, to the stream end or before the fault. The stream
 /// end is returned. The sink has to be one that never refuses a token.
 ///
+/// After the end of the session the sink is given nothing, and the empty token is returned.
+///
 /// # Errors
 /// The same as of [`yaml_parser_scan`](crate::yaml_parser_scan).
 pub fn yaml_scan_next_to<S: yaml_token_sink_t>(
@@ -246,6 +248,7 @@ pub fn yaml_scan_next_to<S: yaml_token_sink_t>(
         → ReadsAll parser.old.limit parser.old.setting parser.old.input given (Some (fault_of fault))) }
     ensures ended { IfErr result (λ fault. Calls decoded_input SCAN parser.old (FAULT (fault_of fault)) parser.new) }
     ensures none { IfErr result (λ _. S.took sink.old [] sink.new) }
+    ensures over { ReadsNone parser.old parser.new (λ tokens. S.took sink.old tokens sink.new) result }
     ensures within { S.within sink.old → S.within sink.new }
 {
     if parser.session.over || parser.session.peeked {

@@ -20,14 +20,12 @@ ghost use Rattle.yaml_scan.specs.Scanned.{GoesOnBy};
 ghost use Rattle.yaml_scan.specs.Session.Call.{SCAN, PEEK};
 ghost use Rattle.yaml_scan.specs.Session.Answer.{PEEKED};
 
-use crate::parser::{begin, empty_text, yaml_parser_t};
+use crate::parser::{begin, yaml_parser_t};
 use crate::room::{give_while_room, show_next};
 use crate::scanner::state_t;
 use crate::session::session_t;
 use crate::sink::yaml_token_sink_t;
 use crate::stop::{fault_at, stop_t};
-use std::alloc::Global;
-use std::mem::replace;
 use yaml_text::{
     yaml_encoding_t, yaml_fault_t, yaml_kept_text_t, yaml_mark_t, yaml_text_t, yaml_token_t,
 };
@@ -36,30 +34,11 @@ use yaml_text::{
 #[derive(Drop)]
 pub struct yaml_kept_parser_t {
     setting: yaml_encoding_t,
-    /// What is kept of its text. It is `None` only while the parser is taken, or a call has the text.
+    /// What is kept of its text. It is `None` only while a call has the text.
     text: Option<yaml_kept_text_t>,
     state: state_t,
     session: session_t,
     lead: yaml_token_t,
-}
-
-/// The text that was kept, or the empty one before the first step and after the last. `under_way`: it is between these.
-fn text_again<'a>(
-    alloc: Global,
-    kept: Option<yaml_kept_text_t>,
-    input: &'a [u8],
-    under_way: bool,
-) -> yaml_text_t<'a>
-    requires { under_way ≡ true → (x : Text) × (k : KeptText) × (kept ≡ Some k) × IsKeptOf x input.now k }
-    ensures { under_way ≡ true
-        → (x : Text) (k : KeptText) → kept ≡ Some k → IsKeptOf x input.now k → result ≡ x }
-{
-    if under_way {
-        if let Some(kept) = kept {
-            return kept.text(input);
-        }
-    }
-    empty_text(alloc)
 }
 
 impl yaml_kept_parser_t {
@@ -83,52 +62,6 @@ impl yaml_kept_parser_t {
             session,
             lead,
         }
-    }
-
-    /// Takes the parser out, over the same input. What is left here is of no parser. It takes no memory.
-    #[inline(always)]
-    pub fn take<'a>(&mut self, alloc: Global, input: &'a [u8]) -> yaml_parser_t<'a>
-        requires { (p : Parser) × (p.input ≡ input.now) × IsKept p self.old }
-        ensures { (p : Parser) → p.input ≡ input.now → IsKept p self.old → result ≡ p }
-    {
-        let kept = self;
-        let over = kept.session.over;
-        let under_way = kept.state.made > 0 && !over;
-        let text = text_again(alloc, kept.text.take(), input, under_way);
-        yaml_parser_t {
-            input,
-            setting: kept.setting,
-            text,
-            state: kept.state.take(alloc),
-            session: session_t {
-                peeked: kept.session.peeked,
-                over,
-                failed: kept.session.failed,
-            },
-            empty: yaml_token_t::empty(),
-            lead: replace(&mut kept.lead, yaml_token_t::empty()),
-        }
-    }
-
-    /// Keeps a parser in the place of what was kept. It takes no memory, and copies no text.
-    #[inline(always)]
-    pub fn keep(&mut self, parser: yaml_parser_t)
-        ensures { IsKept parser.entry self.new }
-    {
-        let yaml_parser_t {
-            input,
-            setting,
-            text,
-            state,
-            session,
-            empty: _,
-            lead,
-        } = parser;
-        self.setting = setting;
-        self.text = Some(yaml_kept_text_t::new(text, input, setting));
-        self.state = state;
-        self.session = session;
-        self.lead = lead;
     }
 
     /// How far the last step without a fault was read, as [`yaml_parser_mark`](crate::yaml_parser_mark) says it.
@@ -359,7 +292,8 @@ fn end_kept(kept: &mut yaml_kept_parser_t, stop: stop_t)
 /// is lacking, the token is shown: [`yaml_kept_parser_t::peeked`] returns it. The parser stays in its place, and a text
 /// that was decoded is not moved.
 ///
-/// The sink has to be one that never refuses a token. After the end of the session it is given nothing.
+/// The sink has to be one that never refuses a token. After the end of the session it is given nothing, and the parser
+/// stays as it is.
 ///
 /// Returns whether there is a fault, the same as of [`yaml_parser_scan`](crate::yaml_parser_scan), after the tokens
 /// before it went to the sink. It ends the session, and [`yaml_kept_parser_t::fault`] returns it.
@@ -401,7 +335,7 @@ pub fn yaml_kept_peek(kept: &mut yaml_kept_parser_t, input: &[u8]) -> bool
     ensures shows { result ≡ false → (p : Parser) → p.input ≡ input.now → IsKept p kept.old
         → (q : Parser) × IsKept q kept.new × Calls decoded_input PEEK p (PEEKED (token_shown q)) q
         × GoesOnBy p [] q p.session.over
-        × (p.session.over ≡ false → q.session.peeked ≡ true) }
+        × (p.session.over ≡ false → q.session.peeked ≡ true) × (p.session.over ≡ true → q ≡ p) }
     ensures fault { result ≡ true → (p : Parser) → p.input ≡ input.now → IsKept p kept.old
         → (q : Parser) × IsKept q kept.new × (fault : Fault) × (q.session.fault ≡ Some fault)
         × GivesToFault PEEK p q (λ tokens. tokens ≡ []) fault }

@@ -261,7 +261,7 @@ impl slots_t {
     #[inline(always)]
     fn move_on(&mut self, step: step_t, limit: u64, mark: yaml_mark_t)
         requires flow { step.in_flow ≡ nat_lt 0 (vec_len self.old.outer) }
-        requires empty { self.old.empty_below ≡ empty_slots self.old.outer.items }
+        requires empty { self.old.not_simple_keys ≡ empty_slots self.old.outer.items }
         requires nested { AreNested self.old.outer.items }
         requires room { is_flow_start step.kind ≡ true → vec_len self.old.outer < vec_capacity self.old.outer }
         ensures outer { self.new.outer.items
@@ -270,7 +270,7 @@ impl slots_t {
         ensures top { self.new.top
             ≡ nested_top step.kind (map (still_held limit mark) self.old.outer.items)
             (still_held limit mark self.old.top) }
-        ensures empty { self.new.empty_below ≡ empty_slots self.new.outer.items }
+        ensures empty { self.new.not_simple_keys ≡ empty_slots self.new.outer.items }
         ensures awaited { self.new.awaited ≡ held_step (lowest (self.new.outer.items ++ self.new.top ∷ [])) }
     {
         give_up(&mut self.top, limit, mark);
@@ -278,7 +278,7 @@ impl slots_t {
             self.awaited = held_step(self.top);
             return;
         }
-        let below = give_up_stale(&mut self.outer, self.empty_below, limit, mark);
+        let below = give_up_stale(&mut self.outer, self.not_simple_keys, limit, mark);
         let empty = if nests(step.kind) {
             self.nest(step.kind);
             count_empty(&self.outer, below)
@@ -286,7 +286,7 @@ impl slots_t {
             below
         };
         self.awaited = held_step(lowest(&self.outer, empty, self.top));
-        self.empty_below = empty;
+        self.not_simple_keys = empty;
     }
 
     /// Changes the candidates after the lexeme of a step, which was read to a mark. There is room for the depth that it
@@ -294,7 +294,7 @@ impl slots_t {
     #[inline(always)]
     pub(crate) fn keep_candidates(&mut self, step: step_t, limit: u64, mark: yaml_mark_t)
         requires flow { step.in_flow ≡ nat_lt 0 (vec_len self.old.outer) }
-        requires empty { self.old.empty_below ≡ empty_slots self.old.outer.items }
+        requires empty { self.old.not_simple_keys ≡ empty_slots self.old.outer.items }
         requires nested { AreNested self.old.outer.items }
         requires room { is_flow_start step.kind ≡ true → vec_len self.old.outer < vec_capacity self.old.outer }
         ensures outer { self.new.outer.items
@@ -303,7 +303,7 @@ impl slots_t {
         ensures top { self.new.top
             ≡ nested_top step.kind (map (still_held limit mark) self.old.outer.items)
             (still_held limit mark (slot_after step.kind step.allowed step.new self.old.top)) }
-        ensures empty { self.new.empty_below ≡ empty_slots self.new.outer.items }
+        ensures empty { self.new.not_simple_keys ≡ empty_slots self.new.outer.items }
         ensures awaited { self.new.awaited ≡ held_step (lowest (self.new.outer.items ++ self.new.top ∷ [])) }
     {
         change_slot(&mut self.top, step.kind, step.allowed, step.new);
@@ -317,13 +317,13 @@ impl slots_t {
         requires { is_flow_start kind ≡ false }
         ensures outer { self.new.outer.items ≡ nested_outer kind self.old.outer.items None }
         ensures top { self.new.top ≡ nested_top kind self.old.outer.items None }
-        ensures empty { self.new.empty_below ≡ (if waits then self.old.empty_below else vec_len self.new.outer) }
+        ensures empty { self.new.not_simple_keys ≡ (if waits then self.old.not_simple_keys else vec_len self.new.outer) }
         ensures awaited { self.new.awaited ≡ (if waits then self.old.awaited else 0) }
     {
         self.top = None;
         self.nest(kind);
         if !waits {
-            self.empty_below = self.outer.len();
+            self.not_simple_keys = self.outer.len();
             self.awaited = 0;
         }
     }

@@ -1,7 +1,6 @@
 //! What holds of the layout, and of the equality that the types derive.
 ghost use Rattle.std.specs.Prelude.{◌≡◌, ◌↔◌, IsTrue};
 ghost use Rattle.yaml_scan.specs.Seen.{seen_of};
-ghost use Rattle.yaml_scan.specs.inside.Passed.{parser_passed};
 ghost use Rattle.yaml_scan.specs.Laws.{DepthGoesOn, CandidatesGoOn, CandidatesAreNested, AllowedGoesOn, ColumnsGoOn};
 ghost use Rattle.yaml_scan.specs.Laws.{ColumnsFall, LevelIsFirst, LevelStays, OfflineGoesOn, CandidateStandsThere};
 ghost use Rattle.yaml_scan.specs.Laws.{NeverRevised, FewWait, FewWaitOneStepOn, AllIsHandedOut, LexemesComeInOrder};
@@ -25,7 +24,6 @@ ghost use Rattle.yaml_scan.specs.Puts.{CallsAreSession};
 ghost use Rattle.yaml_scan.specs.ReadingOn.{AllIsTold, RestIsTold, ScansReadOn, FaultIsToldOnce, RunsFaultOnce};
 
 use crate::calls::{yaml_answer_t, yaml_call_t};
-use crate::parser::yaml_parser_t;
 
 /// What one lexeme more makes of the depth, the candidates, whether a key is allowed, the open columns and the level: a
 /// machine that keeps a slot for each depth and a stack of columns keeps them.
@@ -235,18 +233,6 @@ pub fn fault_is_told_once()
 pub fn calls_in_turn()
     ensures session { CallsAreSession }
 {}
-
-/// Returns how many of the lowest flow depths, below that of the last step, have no candidate for a key. A parser
-/// counts them, so that no step looks at their slots again. After the session is over it returns 0.
-pub fn depths_passed(parser: &yaml_parser_t) -> usize
-    ensures { result ≡ parser_passed parser.now }
-{
-    if parser.session.over {
-        0
-    } else {
-        parser.state.slots.empty_below
-    }
-}
 
 /// Calls are equal exactly if they are one call.
 pub fn same_calls(a: yaml_call_t, b: yaml_call_t) -> bool

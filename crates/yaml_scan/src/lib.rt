@@ -20,6 +20,8 @@ mod scanner;
 mod session;
 mod settled;
 mod sink;
+#[cfg(test)]
+mod slot_tests;
 mod source;
 mod step;
 mod stop;

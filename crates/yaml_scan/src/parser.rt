@@ -24,7 +24,7 @@ ghost use Rattle.yaml_scan.specs.Session.Call.{SKIP, SCAN, PEEK};
 ghost use Rattle.yaml_scan.specs.Peek.{OnceLetGo};
 ghost use Rattle.yaml_scan.specs.Puts.{HasNext, IsAnsweredAlike};
 ghost use Rattle.yaml_scan.specs.inside.Stop.{fault_at};
-ghost use Rattle.yaml_scan.specs.Token.{type_of};
+ghost use Rattle.yaml_scan.specs.Token.{empty, type_of};
 ghost use Rattle.yaml_scan.specs.TokenTypes.{is_last_type};
 ghost use Rattle.yaml_scan.specs.All.{ReadsAll};
 ghost use Rattle.yaml_scan.specs.Scanned.{Scanned};
@@ -71,7 +71,7 @@ impl<'a> Model for yaml_parser_t<'a> {
 }
 
 /// The text of no characters.
-pub(crate) fn empty_text<'a>(alloc: Global) -> yaml_text_t<'a> {
+fn empty_text<'a>(alloc: Global) -> yaml_text_t<'a> {
     match yaml_decode_front(alloc, b"", yaml_encoding_t::YAML_UTF8_ENCODING) {
         Ok((text, _)) => text,
         Err(_) => unreachable!(),
@@ -95,7 +95,7 @@ pub(crate) fn new_state(alloc: Global, limit: u64) -> state_t
         limit,
         slots: slots_t {
             outer: Vec::new(alloc),
-            empty_below: 0,
+            not_simple_keys: 0,
             top: None,
             awaited: 0,
         },
@@ -442,7 +442,8 @@ pub fn yaml_parser_mark(parser: &yaml_parser_t) -> yaml_mark_t
     parser.state.reach
 }
 
-/// Takes the next token, as [`yaml_parser_scan`] does, and says whether it is the stream end.
+/// Takes the next token, as [`yaml_parser_scan`] does, and says whether it is the stream end. After the end of the
+/// session it is the empty one.
 ///
 /// If a new parser is asked so again and again, the tokens are those that [`yaml_scan_to`](crate::yaml_scan_to) gives,
 /// in order, to the stream end or before the fault.
@@ -458,6 +459,8 @@ pub fn yaml_scan_next(parser: &mut yaml_parser_t) -> Result<(yaml_token_t, bool)
         → Scanned parser.old.limit parser.old.setting parser.old.input parser.old given false
         → Scanned parser.old.limit parser.old.setting parser.old.input parser.new (given ++ token_of r.0 ∷ []) r.1) }
     ensures last { IfOk result (λ r. r.1 ≡ is_last_type (type_of (token_of r.0).token_data)) }
+    ensures over { parser.old.session.over ≡ true
+        → MatchResult result (λ r. (token_of r.0 ≡ empty) × (parser.new ≡ parser.old)) (λ _. ⊥) }
     ensures fault { IfErr result (λ fault. (given : List Token)
         → Scanned parser.old.limit parser.old.setting parser.old.input parser.old given false
         → ReadsAll parser.old.limit parser.old.setting parser.old.input given (Some (fault_of fault))) }

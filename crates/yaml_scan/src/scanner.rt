@@ -9,13 +9,10 @@ ghost use Rattle.yaml_scan.specs.inside.Scanning.{IsNewHeld, cleared_in, met_in,
 ghost use Rattle.yaml_scan.specs.inside.Slots.{is_level, root_of, slot_after};
 
 use crate::depth::{candidate_t, slots_t};
-use crate::groups::queue_t;
 use crate::keys::{change_slot, completed_by, needed_at, root_at};
 use crate::kind::{is_candidate_kind, is_colon, problem, start_after, step_t};
 use crate::levels::{is_level, layout_t, level_at};
 use std::alloc::Global;
-use std::collections::VecDeque;
-use std::mem::replace;
 use yaml_lexeme::{yaml_context_t, yaml_lexeme_kind_t};
 use yaml_text::{yaml_fault_t, yaml_mark_t};
 
@@ -47,29 +44,6 @@ pub(crate) struct state_t {
 }
 
 impl state_t {
-    /// Takes the state out. What is left here has no candidates, no levels and no groups. Each field is moved to where
-    /// the result goes, so that the state is not moved twice.
-    #[inline(always)]
-    pub(crate) fn take(&mut self, alloc: Global) -> state_t
-        ensures { result ≡ self.old }
-    {
-        let reach = self.reach;
-        state_t {
-            alloc: self.alloc,
-            fault: self.fault,
-            near: self.near,
-            limit: self.limit,
-            slots: replace(&mut self.slots, no_slots(alloc)),
-            allowed: self.allowed,
-            layout: replace(&mut self.layout, no_layout(alloc, reach)),
-            reach,
-            gap_end: self.gap_end,
-            there: self.there,
-            taken: self.taken,
-            made: self.made,
-        }
-    }
-
     /// What is wrong with a kind after the gap, if it needs an allowed key and none is allowed.
     #[inline(always)]
     pub(crate) fn refused_by(
@@ -142,31 +116,6 @@ impl state_t {
         let mut top = self.slots.top;
         change_slot(&mut top, step.kind, step.allowed, step.new);
         root_at(&self.slots.outer, top, step.in_flow)
-    }
-}
-
-/// No candidates.
-#[inline(always)]
-fn no_slots(alloc: Global) -> slots_t {
-    slots_t {
-        outer: Vec::new(alloc),
-        empty_below: 0,
-        top: None,
-        awaited: 0,
-    }
-}
-
-/// No levels, and an empty queue.
-#[inline(always)]
-fn no_layout(alloc: Global, mark: yaml_mark_t) -> layout_t {
-    layout_t {
-        levels: Vec::new(alloc),
-        queue: queue_t {
-            groups: VecDeque::new(alloc),
-            done: 0,
-            early: 0,
-            early_mark: mark,
-        },
     }
 }
 

@@ -263,6 +263,14 @@ module _ (setting : yaml_encoding_t) (input : List ℕ) (s : Scanner) (k : IsSho
 pub show_over : (p : Parser) → p.session.over ≡ true → p.session.peeked ≡ false → Shows p true p
 show_over p o k = inl (rw (k, o) refl, rw o refl)
 
+-- after the end a scan changes nothing, and its answer is the empty token
+pub scan_idle : (p q : Parser) (a : Answer) → p.session.over ≡ true → Calls decoded_input SCAN p a q → (a ≡ TOKEN empty) × (q ≡ p)
+scan_idle p q a o (inl w) =
+    let told : answered p SCAN ≡ TOKEN empty = rw o refl in
+    let left : after_call p SCAN ≡ p = rw o refl in
+    (w.0 ∙ told, w.1 ∙ left)
+scan_idle p q a o (inr w) = absurd (false≢true (sym w.1.was_open ∙ o))
+
 pub scan_over : (p : Parser) → p.session.over ≡ true → Calls decoded_input SCAN p (TOKEN empty) p
 scan_over p o = inl (rw o refl, rw o refl)
 

@@ -105,13 +105,14 @@ stops_text i v o m setting input a b old new e d left held stop h = record {
     At s x = (T : Text) → (IsShort s x (scanner_of T old) (fault_at stop new.state.fault) ⊎ IsEnded s x (scanner_of T old) (scanner_of T new.state) (fault_at stop new.state.fault)) × IsStopped s x (scanner_of T old) (scanner_of T new.state)
 
 -- WHAT IS KEPT
-pub kept_after : (i j : Inside) (p : Parser) (tokens : List yaml_token_t) (took : List yaml_token_t → Type 0) → parser_of i ≡ p → j.input.now ≡ i.input.now → GoesOnTo i j tokens → took tokens → GivesMore p (parser_of j) took
-kept_after i j p tokens took e same g w = record {
+pub kept_after : (i j : Inside) (p : Parser) (tokens : List yaml_token_t) (took : List yaml_token_t → Type 0) → parser_of i ≡ p → p.session.over ≡ false → j.input.now ≡ i.input.now → GoesOnTo i j tokens → took tokens → GivesMore p (parser_of j) took
+kept_after i j p tokens took e o same g w = record {
   input = same ∙ ap (λ (z : Parser). z.input) e;
   tokens = tokens;
   given = w;
   on = subst (λ (z : Parser). GoesOnBy z tokens (parser_of j) j.session.over) e g.on;
   first = subst (λ (z : Parser). ComesFirst (token_peeked z) tokens (parser_of j)) e g.first;
+  at_end = λ n. absurd (false≢true (sym o ∙ n));
 }
 
 pub is_kept : (j : Inside) (left : KeptText) → Sound j → (j.session.over ≡ false → 0 < j.state.made → IsKeptOf j.text j.input.now left) → IsKept (parser_of j) (kept_of j left)
@@ -142,9 +143,9 @@ module _ (i : Inside) (p : Parser) (seen : parser_of i ≡ p) (setting : yaml_en
   stops_left : (tokens : List yaml_token_t) (took : List yaml_token_t → Type 0) (stop : stop_t) → took tokens → StopsAfter i (scanner_in j) tokens (fault_at stop j.state.fault) → EndsKept i left_kept took stop
   stops_left tokens took stop w s = record { setting = a; left = left; held = refl; text = text; tokens = tokens; given = w; stops = s }
 
-  pub gives_kept : (took : List yaml_token_t → Type 0) (lacks : ℕ → ℕ → Type 0) (r : Result (Unit {0}) stop_t) → GivesAllOn i j took lacks r → GivesKept p i left_kept took lacks r
-  gives_kept took lacks (Ok x) w = (parser_of j, is_left (let g = w.2 in g.sound), kept_after i j p w.0 took seen refl w.2 w.1, w.3)
-  gives_kept took lacks (Err stop) w = stops_left w.0 took stop w.1 w.2
+  pub gives_kept : p.session.over ≡ false → (took : List yaml_token_t → Type 0) (lacks : ℕ → ℕ → Type 0) (r : Result (Unit {0}) stop_t) → GivesAllOn i j took lacks r → GivesKept p i left_kept took lacks r
+  gives_kept o took lacks (Ok x) w = (parser_of j, is_left (let g = w.2 in g.sound), kept_after i j p w.0 took seen o refl w.2 w.1, w.3)
+  gives_kept o took lacks (Err stop) w = stops_left w.0 took stop w.1 w.2
 
   pub shows_kept : (r : Result (Unit {0}) stop_t) → ShowsNext i j r → ShowsKept p i left_kept r
   shows_kept (Ok x) w = let g = w.stands in (
@@ -185,6 +186,7 @@ gives_none p took w = record {
   given = w;
   on = λ given h. subst (λ (o : Bool). Scanned p.limit p.setting p.input p (given ++ []) o) (sym h.over) (on_none p given h);
   first = first_when p p [] (λ e. is_shown p e);
+  at_end = λ n. (refl, refl);
 }
 
 -- THE SESSION ENDS WITH A FAULT
@@ -246,8 +248,12 @@ module _ (i : Inside) (p : Parser) (seen : parser_of i ≡ p) (k : yaml_kept_par
   scan_ends : Calls decoded_input SCAN (parser_of last) (scan_result (Err w)) ended
   scan_ends = scan_not_shown (parser_of last) ended e.stops.still_open w peek_ends
 
-  for_this : (call : Call) → Calls decoded_input call (parser_of last) (FAULT (fault_of w)) ended → GivesToFault call (parser_of i) ended took (fault_of w)
-  for_this call c = let P = parser_of i in let s = e.stops in record {
+  was_open : p.session.over ≡ false → i.session.over ≡ false
+  was_open o = ap (λ (z : Parser). z.session.over) seen ∙ o
+
+  for_this : (call : Call) → i.session.over ≡ false → Calls decoded_input call (parser_of last) (FAULT (fault_of w)) ended → GivesToFault call (parser_of i) ended took (fault_of w)
+  for_this call o c = let P = parser_of i in let s = e.stops in record {
+    still_open = o;
     input = ap (λ (z : Inside). z.input.now) s.rest;
     tokens = e.tokens;
     given = e.given;
@@ -258,8 +264,8 @@ module _ (i : Inside) (p : Parser) (seen : parser_of i ≡ p) (k : yaml_kept_par
     first = first_at_end (token_peeked P) e.tokens (parser_of last) ended s.not_peeked s.first;
   }
 
-  pub scan_to_fault : GivesToFault SCAN p ended took (fault_of w)
-  scan_to_fault = subst (λ (z : Parser). GivesToFault SCAN z ended took (fault_of w)) seen (for_this SCAN scan_ends)
+  pub scan_to_fault : p.session.over ≡ false → GivesToFault SCAN p ended took (fault_of w)
+  scan_to_fault o = subst (λ (z : Parser). GivesToFault SCAN z ended took (fault_of w)) seen (for_this SCAN (was_open o) scan_ends)
 
-  pub peek_to_fault : GivesToFault PEEK p ended took (fault_of w)
-  peek_to_fault = subst (λ (z : Parser). GivesToFault PEEK z ended took (fault_of w)) seen (for_this PEEK peek_ends)
+  pub peek_to_fault : p.session.over ≡ false → GivesToFault PEEK p ended took (fault_of w)
+  peek_to_fault o = subst (λ (z : Parser). GivesToFault PEEK z ended took (fault_of w)) seen (for_this PEEK (was_open o) peek_ends)

@@ -201,7 +201,7 @@ module _ (H : List Laid) (s : Scanner) (r : step_t) (x : yaml_lexeme_t) (c : Can
 
     module _ (key : Bool) (KEY : key ≡ is_value k) (V : Vec ℕ Global) (LEVELS : reverse V.items ≡ (if key && is_new r.in_flow new.start.column ks then new.start.column ∷ [] else []) ++ ks)
         (value : yaml_token_t) (SAYS : token_of value ≡ record { token_data = y.token_data; start_mark = gap_end; end_mark = y.end_mark })
-        (S : slots_t) (OUTER : S.outer.items ≡ nested_outer k outer None) (TOP : S.top ≡ nested_top k outer None) (EMPTY : S.empty_below ≡ vec_len S.outer) (AWAITED : S.awaited ≡ 0)
+        (S : slots_t) (OUTER : S.outer.items ≡ nested_outer k outer None) (TOP : S.top ≡ nested_top k outer None) (EMPTY : S.not_simple_keys ≡ vec_len S.outer) (AWAITED : S.awaited ≡ 0)
         (a : Bool) (ALLOWED : (n : ℕ) → r.in_flow ≡ nat_lt 0 n → a ≡ allows k n (not key) false) where
       abbrev pub after : Scanner
       after = put_in (counted between) S a (record { levels = V; queue = s.layout.queue }) y.reach

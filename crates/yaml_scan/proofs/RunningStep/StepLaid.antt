@@ -370,7 +370,7 @@ module _ (H : List Laid) (N : ℕ) (s : Scanner) {ys : List group_t} (r : HoldsW
             swept_top = ap (λ (z : Option Held). still_held s.limit b.reach z) (T ∙ ap (λ (z : Option Held). slot_after m.kind a new z) r.keys.top) ∙ top_swept s.limit H X history a A new new_laid
 
             pub keys_then : lost_held s.limit b.reach (root_of s.slots.outer.items top') ≡ None → (S : slots_t) → S.outer.items ≡ nested_outer m.kind (map (still_held s.limit b.reach) s.slots.outer.items) (still_held s.limit b.reach top')
-                → S.top ≡ nested_top m.kind (map (still_held s.limit b.reach) s.slots.outer.items) (still_held s.limit b.reach top') → S.empty_below ≡ empty_slots S.outer.items → S.awaited ≡ held_step (lowest (S.outer.items ++ S.top ∷ []))
+                → S.top ≡ nested_top m.kind (map (still_held s.limit b.reach) s.slots.outer.items) (still_held s.limit b.reach top') → S.not_simple_keys ≡ empty_slots S.outer.items → S.awaited ≡ held_step (lowest (S.outer.items ++ S.top ∷ []))
                 → (none : Bool) → is_some c ≡ not none → (may : Bool) → ((d : ℕ) → in_flow ≡ nat_lt 0 d → may ≡ allows X.kind d none X.passed_break) → HoldsKeys s.limit (laid s.limit H X ∷ H) S may
             keys_then lost S O T E W none V may e = record {
               fresh = ap (λ (z : yaml_mark_t). stale s.limit (laid s.limit H X ∷ H) z) (reach_is s.limit H X history) ∙ (let v = agree (root_of s.slots.outer.items top') s.slots.outer.items refl refl _ refl in v.none lost);

@@ -46,7 +46,7 @@ pub record IsPut (s : Scanner) (ys : List group_t) (m : Met) (in_flow : Bool) (n
   pub done : L.queue.done ≡ s.layout.queue.done
   pub outer : S.outer.items ≡ nested_outer m.kind (map (still_held s.limit x.reach) s.slots.outer.items) (still_held s.limit x.reach (slot_after m.kind m.allowed new s.slots.top))
   pub top : S.top ≡ nested_top m.kind (map (still_held s.limit x.reach) s.slots.outer.items) (still_held s.limit x.reach (slot_after m.kind m.allowed new s.slots.top))
-  pub empty : S.empty_below ≡ empty_slots S.outer.items
+  pub empty : S.not_simple_keys ≡ empty_slots S.outer.items
   pub awaited : S.awaited ≡ held_step (lowest (S.outer.items ++ S.top ∷ []))
   pub allows : (d : ℕ) → in_flow ≡ nat_lt 0 d → a ≡ allows m.kind d none x.passed_break
 

@@ -91,7 +91,7 @@ module _ (H : List Laid) (s : Scanner) (r : step_t) (x : yaml_lexeme_t) (c : Can
 -- ONE AFTER THE OTHER
 -- the scanner after the lexeme x of the step r, with the candidate of its depth and the step that is awaited
 abbrev pub between_of : Scanner → step_t → yaml_lexeme_t → Option Held → ℕ → layout_t → Scanner
-between_of s r x top awaited L = put_in s (record { outer = s.slots.outer; empty_below = s.slots.empty_below; top = top; awaited = awaited }) (is_plain r.kind && x.passed_break) L x.reach
+between_of s r x top awaited L = put_in s (record { outer = s.slots.outer; not_simple_keys = s.slots.not_simple_keys; top = top; awaited = awaited }) (is_plain r.kind && x.passed_break) L x.reach
 
 -- the lexeme of kind k right after it
 abbrev pub met_after : step_t → yaml_lexeme_t → Kind → Met

@@ -123,7 +123,7 @@ live_before limit m h e =
 
 -- WHAT COMES RIGHT AFTER A LEXEME
 pub follower : (s : Scanner) (sparing : Bool) (r : step_t) (at : yaml_mark_t) (w : Bool) (k : Kind) (x : yaml_lexeme_t) → IsFollowed s sparing r at w → ((p : ℕ) → IsMarkOf s.text.chars at p → IsDecider s.text.chars r.in_flow p k x) → x.reach ≡ one_on at → x.reach.index < s.near
-    → (w ≡ true → (h : Held) × ((slice_get s.slots.outer.items s.slots.empty_below ≡ Some (Some h)) × (is_live s.limit x.reach h ≡ true))) → IsFollower s sparing r at w k x
+    → (w ≡ true → (h : Held) × ((slice_get s.slots.outer.items s.slots.not_simple_keys ≡ Some (Some h)) × (is_live s.limit x.reach h ≡ true))) → IsFollower s sparing r at w k x
 follower s sparing r at true k x f d m l o = record { waits = f; reach = m; outer = o refl; decider = d; far = l }
 follower s sparing r at false k x f d m l o = record { undecided = f; decider = d; far = l }
 
@@ -164,11 +164,11 @@ module _ (H : List Laid) (s : Scanner) (r : step_t) (x : yaml_lexeme_t) (c : Can
   first_held : slice_get outer (empty_slots outer) ≡ Some (Some d.outer.0)
   first_held = subst (λ (n : ℕ). slice_get outer n ≡ Some (Some d.outer.0)) h.keys.empty d.outer.1.0
 
-  all_live : (m : yaml_mark_t) (g : Held) → slice_get outer s.slots.empty_below ≡ Some (Some g) → is_live s.limit m g ≡ true → map (still_held s.limit m) outer ≡ outer
+  all_live : (m : yaml_mark_t) (g : Held) → slice_get outer s.slots.not_simple_keys ≡ Some (Some g) → is_live s.limit m g ≡ true → map (still_held s.limit m) outer ≡ outer
   all_live m g e t =
       let nested : AreNested outer = subst AreNested (sym h.keys.outer) (outer_nested s.limit H h.is_history) in
-      let below : AreEmptyBelow s.slots.empty_below outer = subst (λ (n : ℕ). AreEmptyBelow n outer) (sym h.keys.empty) (below_empty outer) in
-      swept_front s.limit m outer outer s.slots.empty_below g nested (λ i f q. q) below e t
+      let below : AreEmptyBelow s.slots.not_simple_keys outer = subst (λ (n : ℕ). AreEmptyBelow n outer) (sym h.keys.empty) (below_empty outer) in
+      swept_front s.limit m outer outer s.slots.not_simple_keys g nested (λ i f q. q) below e t
 
   live_then : map (still_held s.limit x.reach) outer ≡ outer
   live_then = all_live x.reach d.outer.0 d.outer.1.0 (live_before s.limit x.reach d.outer.0 (subst (λ (m : yaml_mark_t). is_live s.limit m d.outer.0 ≡ true) d.reach d.outer.1.1))
@@ -245,7 +245,7 @@ module _ (H : List Laid) (s : Scanner) (r : step_t) (x : yaml_lexeme_t) (c : Can
     decides_it = let i = read_place H s r x c u.candidate in (d.decider i.0 i.1).decides
 
     not_lost : lost_held s.limit gap_end (root_of outer then_top) ≡ None
-    not_lost = root_kept s.limit gap_end outer then_top s.slots.empty_below d.outer.0 d.outer.1.0 live_then
+    not_lost = root_kept s.limit gap_end outer then_top s.slots.not_simple_keys d.outer.0 d.outer.1.0 live_then
 
     -- the lexeme is a key if a key is allowed and a `:` comes after it
     abbrev key : Bool
@@ -267,7 +267,7 @@ module _ (H : List Laid) (s : Scanner) (r : step_t) (x : yaml_lexeme_t) (c : Can
     at_last = let e = c.can.is_new.step in let n = h.number in let z = h.queue.count in omega arith
 
     module _ (value : yaml_token_t) (SAYS : token_of value ≡ record { token_data = y.token_data; start_mark = gap_end; end_mark = y.end_mark })
-        (S : slots_t) (OUTER : S.outer.items ≡ nested_outer k outer None) (TOP : S.top ≡ nested_top k outer None) (EMPTY : S.empty_below ≡ s.slots.empty_below) (AWAITED : S.awaited ≡ s.slots.awaited)
+        (S : slots_t) (OUTER : S.outer.items ≡ nested_outer k outer None) (TOP : S.top ≡ nested_top k outer None) (EMPTY : S.not_simple_keys ≡ s.slots.not_simple_keys) (AWAITED : S.awaited ≡ s.slots.awaited)
         (a : Bool) (ALLOWED : (n : ℕ) → r.in_flow ≡ nat_lt 0 n → a ≡ allows k n (not key) false) where
       abbrev pub after : Scanner
       after = put_in (counted between) S a s.layout y.reach
@@ -313,5 +313,5 @@ module _ (H : List Laid) (s : Scanner) (r : step_t) (x : yaml_lexeme_t) (c : Can
       }
 
       pub twice : (zs : List group_t) → zs ≡ ys ++ keyed_group ∷ (last ∷ []) → (t : Scanner) → counted t ≡ after → LaysTwo true H s t zs
-      twice zs Z t T = lays_two H s r x c k y then_top s.slots.awaited s.layout (ys ++ group ∷ []) first not_last d.decider (not key) completes (rw u.flow refl) not_lost (root_kept s.limit y.reach outer None s.slots.empty_below d.outer.0 d.outer.1.0 live_after)
+      twice zs Z t T = lays_two H s r x c k y then_top s.slots.awaited s.layout (ys ++ group ∷ []) first not_last d.decider (not key) completes (rw u.flow refl) not_lost (root_kept s.limit y.reach outer None s.slots.not_simple_keys d.outer.0 d.outer.1.0 live_after)
           true (λ z. then_needed) S a s.layout (ys ++ keyed_group ∷ (last ∷ [])) second d.far zs Z t T

@@ -20,7 +20,7 @@ use Rattle.yaml_scan.specs.inside.Queue.{IsQueue}
 pub record HoldsKeys (limit : ℕ) (H : List Laid) (slots : slots_t) (may : Bool) : Type 0 where
   pub fresh : stale limit H (reach H) ≡ None
   pub outer : slots.outer.items ≡ outer_to limit H (depth H)
-  pub empty : slots.empty_below ≡ empty_slots slots.outer.items
+  pub empty : slots.not_simple_keys ≡ empty_slots slots.outer.items
   pub top : slots.top ≡ held limit H (depth H)
   pub awaited : slots.awaited ≡ held_step (lowest (slots.outer.items ++ slots.top ∷ []))
   pub allowed : may ≡ allowed_after H

@@ -29,7 +29,7 @@ use Rattle.yaml_scan.specs.inside.Queue.{IsLead}
 pub record AreNew (slots : slots_t) (may : Bool) (layout : layout_t) (at : yaml_mark_t) (n m : ℕ) : Type 0 where
   pub levels : layout.levels.items ≡ []
   pub outer : slots.outer.items ≡ []
-  pub empty : slots.empty_below ≡ 0
+  pub empty : slots.not_simple_keys ≡ 0
   pub top : slots.top ≡ None
   pub awaited : slots.awaited ≡ 0
   pub allowed : may ≡ true

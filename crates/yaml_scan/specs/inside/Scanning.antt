@@ -191,7 +191,7 @@ pub record Beside (s t : Scanner) : Type 0 where
   pub limit : t.limit ≡ s.limit
   pub outer : t.slots.outer.items ≡ s.slots.outer.items
   pub depth : vec_len t.slots.outer ≡ vec_len s.slots.outer
-  pub empty : t.slots.empty_below ≡ s.slots.empty_below
+  pub empty : t.slots.not_simple_keys ≡ s.slots.not_simple_keys
   pub top : t.slots.top ≡ s.slots.top
   pub awaited : t.slots.awaited ≡ s.slots.awaited
   pub allowed : t.allowed ≡ s.allowed
@@ -301,7 +301,7 @@ pub record Waits (s : Scanner) (r : step_t) (at : yaml_mark_t) : Type 0 where
 pub record IsWaiting (s : Scanner) (r : step_t) (at : yaml_mark_t) (k : Kind) (x : yaml_lexeme_t) : Type 0 where
   pub waits : Waits s r at
   pub reach : x.reach ≡ one_on at
-  pub outer : (h : Held) × ((slice_get s.slots.outer.items s.slots.empty_below ≡ Some (Some h))
+  pub outer : (h : Held) × ((slice_get s.slots.outer.items s.slots.not_simple_keys ≡ Some (Some h))
       × (is_live s.limit x.reach h ≡ true))
   pub decider : (p : ℕ) → IsMarkOf s.text.chars at p → IsDecider s.text.chars r.in_flow p k x
   pub far : x.reach.index < s.near

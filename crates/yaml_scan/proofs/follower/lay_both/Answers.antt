@@ -52,7 +52,7 @@ returns-clause-laid g c = λ X sparing d b e passed t z p F T Z.
           let f : IsWaiting s r c.args.at k y = subst (λ (i : Bool). IsFollower s sparing r c.args.at i k y) w F in
           let l = levels.same w in
           let allowed : c.is_key-key.result ≡ (r.allowed && is_value k) = key ∙ ap (λ (i : Bool). (not i || r.allowed) && is_value k) w in
-          let empty : new.empty_below ≡ s.slots.empty_below = v.empty ∙ ap (λ (i : Bool). if i then s.slots.empty_below else vec_len new.outer) w in
+          let empty : new.not_simple_keys ≡ s.slots.not_simple_keys = v.empty ∙ ap (λ (i : Bool). if i then s.slots.not_simple_keys else vec_len new.outer) w in
           let awaited : new.awaited ≡ s.slots.awaited = v.awaited ∙ ap (λ (i : Bool). if i then s.slots.awaited else 0) w in
           rw w (waiting.twice g.before s r x p k y f t T z Z new v.outer v.top empty awaited a (rw (← allowed) allows)
           _ (λ i. groups_in s ++ group_with (l.1 i) (l.2 i) (allowed i) t ∷ (lone z ∷ []))
@@ -62,7 +62,7 @@ returns-clause-laid g c = λ X sparing d b e passed t z p F T Z.
           let l = levels.levels w in
           let u = f.undecided in
           let colon : c.is_key-key.result ≡ is_value k = key ∙ ap (λ (i : Bool). (not i || r.allowed) && is_value k) w in
-          let empty : new.empty_below ≡ vec_len new.outer = v.empty ∙ ap (λ (i : Bool). if i then s.slots.empty_below else vec_len new.outer) w in
+          let empty : new.not_simple_keys ≡ vec_len new.outer = v.empty ∙ ap (λ (i : Bool). if i then s.slots.not_simple_keys else vec_len new.outer) w in
           let awaited : new.awaited ≡ 0 = v.awaited ∙ ap (λ (i : Bool). if i then s.slots.awaited else 0) w in
           rw w (decided.twice g.before s r x p sparing k y f l.0 l.1 c.lay_levels-ends.result.0 (levels.ends w) t T
           c.is_key-key.result colon c.lay_levels-ends.new.levels l.2 z Z new v.outer v.top empty awaited a allows

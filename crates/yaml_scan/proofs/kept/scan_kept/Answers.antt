@@ -19,5 +19,5 @@ returns-in-Some-clause-gives g c = λ p e o k.
     let t = ap (λ (z : yaml_kept_parser_t). z.text) k.kept in
     let x = sym e ∙ sym (ap (λ (z : Parser). z.input) k.seen_as) in
     subst (λ (h : Option KeptText). GivesKept p k.parser (record { setting = c.args.kept.now.setting; text = h; state = c.give_while_room.new.state; session = c.give_while_room.new.session; lead = c.give_while_room.new.lead }) (λ ts. g.S.yaml_token_sink_t.took c.args.sink.now ts c.give_while_room.new.sink) (g.S.yaml_token_sink_t.lacks c.give_while_room.new.sink) c.give_while_room.result) (sym t) (gives_kept k.parser p k.seen_as _ c.args.input.now a x c.in-Some.text c.give_while_room.new.state c.give_while_room.new.session c.give_while_room.new.lead k.left (λ _. w.1)
-    (λ ts. g.S.yaml_token_sink_t.took c.args.sink.now ts c.give_while_room.new.sink) (g.S.yaml_token_sink_t.lacks c.give_while_room.new.sink) c.give_while_room.result
+    o (λ ts. g.S.yaml_token_sink_t.took c.args.sink.now ts c.give_while_room.new.sink) (g.S.yaml_token_sink_t.lacks c.give_while_room.new.sink) c.give_while_room.result
     (c.give_while_room.ensures.gives k.parser w.0 (ap (λ (z : yaml_kept_parser_t). z.session) k.kept)))

@@ -26,5 +26,5 @@ returns-clause-gives g c = λ p e o k.
     let x = sym e ∙ sym (ap (λ (z : Parser). z.input) k.seen_as) in
     let b = c.give_back.ensures (subst (λ (z : List ℕ). IsLent c.in_ok-text.text z c.start_kept.new.kept.text) (sym x) w.2) in
     subst (λ (h : Option KeptText). GivesKept p k.parser (record { setting = c.start_kept.new.kept.setting; text = h; state = c.give_while_room-given.new.state; session = c.give_while_room-given.new.session; lead = c.give_while_room-given.new.lead }) (λ ts. g.S.yaml_token_sink_t.took c.args.sink.now ts c.give_while_room-given.new.sink) (g.S.yaml_token_sink_t.lacks c.give_while_room-given.new.sink) c.give_while_room-given.result) (sym b.1) (gives_kept k.parser p k.seen_as _ c.args.input.now a x c.in_ok-text.text c.give_while_room-given.new.state c.give_while_room-given.new.session c.give_while_room-given.new.lead b.0 b.2
-    (λ ts. g.S.yaml_token_sink_t.took c.args.sink.now ts c.give_while_room-given.new.sink) (g.S.yaml_token_sink_t.lacks c.give_while_room-given.new.sink) c.give_while_room-given.result
+    o (λ ts. g.S.yaml_token_sink_t.took c.args.sink.now ts c.give_while_room-given.new.sink) (g.S.yaml_token_sink_t.lacks c.give_while_room-given.new.sink) c.give_while_room-given.result
     (c.give_while_room-given.ensures.gives k.parser w.0 (w.1.session ∙ ap (λ (z : yaml_kept_parser_t). z.session) k.kept)))

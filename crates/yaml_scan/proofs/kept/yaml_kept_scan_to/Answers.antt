@@ -30,5 +30,5 @@ returns-in-Err-clause-fault g c = λ result p e k.
       subst (λ (y : yaml_kept_parser_t). IsKept (ended k.parser p k.seen_as c.scan_kept.new.kept took c.in-Err.stop z w.0 w.1) y) (sym w.2) (ended_kept k.parser p k.seen_as c.scan_kept.new.kept took c.in-Err.stop z w.0 w.1),
       fault_of w.0,
       refl,
-      scan_to_fault k.parser p k.seen_as c.scan_kept.new.kept took c.in-Err.stop z w.0 w.1,
+      scan_to_fault k.parser p k.seen_as c.scan_kept.new.kept took c.in-Err.stop z w.0 w.1 (sym (over_is p c.args.kept.now k) ∙ c.if-kept.false),
     )
