@@ -317,7 +317,8 @@ impl slots_t {
         requires { is_flow_start kind ≡ false }
         ensures outer { self.new.outer.items ≡ nested_outer kind self.old.outer.items None }
         ensures top { self.new.top ≡ nested_top kind self.old.outer.items None }
-        ensures empty { self.new.not_simple_keys ≡ (if waits then self.old.not_simple_keys else vec_len self.new.outer) }
+        ensures empty { self.new.not_simple_keys
+            ≡ (if waits then self.old.not_simple_keys else vec_len self.new.outer) }
         ensures awaited { self.new.awaited ≡ (if waits then self.old.awaited else 0) }
     {
         self.top = None;
