@@ -1,11 +1,10 @@
 -- They hold for any bytes and setting.
-use Rattle.std.proofs.Common.{◌≡◌, ℕ, zero, suc, ◌+◌, ◌<◌, ◌≤◌, List, [], ◌∷◌, ◌++◌, map, length, slice_get, Option, Some, refl, ap, sym, ◌∙◌, arith, inl, inr}
+use Rattle.std.proofs.Common.{◌≡◌, ℕ, List}
 use Rattle.yaml_text.specs.Fault.{Fault}
 use Rattle.yaml_text.specs.declared.types.yaml_encoding_t.{yaml_encoding_t}
 use Rattle.yaml_text.specs.Decode.{front}
 use Rattle.yaml_text.specs.TextBytes.{AreChars}
 use Rattle.yaml_text.proofs.Decodings.DecodeResults.{front_is}
-use Rattle.yaml_scan.specs.Course.{Input}
 use Rattle.yaml_scan.specs.SourceOf.{source_of}
 use Rattle.yaml_scan.specs.Locality.{AgreesWith}
 use Rattle.yaml_scan.specs.Inputs.{answers_to, InputsKeepOrder, AllStandInOrder, AllEndFewer, AllEndAll}

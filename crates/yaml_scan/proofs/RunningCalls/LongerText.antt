@@ -1,29 +1,21 @@
 -- A running scanner of an unfinished text is a running scanner of every text that goes on from it.
-use Rattle.std.proofs.Common.{◌≡◌, ℕ, zero, suc, ◌+◌, ◌-◌, ◌≤◌, ◌<◌, ◌^◌, Bool, true, false, List, [], ◌∷◌, ◌++◌, drop, length, slice_get, Option, Some, None, refl, ap, sym, ◌∙◌, subst, arith, inl, inr}
+use Rattle.std.proofs.Common.{◌≡◌, ℕ, suc, ◌+◌, ◌-◌, ◌≤◌, true, List, [], ◌∷◌, ◌++◌, drop, length, Option, ap, sym, ◌∙◌, subst, arith, inr}
 use Rattle.std.proofs.lemmas.List.{length-append}
-use Rattle.yaml_text.specs.Decoding.{refusal_seen}
-use Rattle.yaml_text.specs.Fault.{Fault}
 use Rattle.yaml_text.specs.Text.{Text}
-use Rattle.yaml_text.specs.TextBytes.{AreChars}
 use Rattle.yaml_text.specs.declared.fault.yaml_fault_t.{yaml_fault_t}
-use Rattle.yaml_text.specs.declared.types.yaml_mark_t.{yaml_mark_t}
 use Rattle.yaml_lexeme.specs.Counted.{IsMarkOf}
-use Rattle.yaml_lexeme.specs.Place.{place_at}
-use Rattle.yaml_scan.specs.Begins.{Begins}
-use Rattle.yaml_scan.specs.Course.{ended, Input, next, oldest, course}
+use Rattle.yaml_scan.specs.Course.{next, oldest, course}
 use Rattle.yaml_scan.specs.Cut.{IsRun, KeepsOrder}
 use Rattle.yaml_scan.specs.Falling.{AllLess}
 use Rattle.yaml_scan.specs.Laid.{Laid}
-use Rattle.yaml_scan.specs.Locality.{ReadsSame, SameBelow}
 use Rattle.yaml_scan.specs.SourceOf.{source_of}
 use Rattle.yaml_scan.specs.Step.{place_after}
 use Rattle.yaml_scan.specs.Unfinished.{GoesOnFrom}
-use Rattle.yaml_scan.specs.inside.Holding.{HoldsQueue}
 use Rattle.yaml_scan.specs.inside.Scanner.{Scanner}
-use Rattle.yaml_scan.specs.inside.Scanning.{IsRunning, HoldsWith, IsNearOf, groups_in, input_of, course_of, history}
+use Rattle.yaml_scan.specs.inside.Scanning.{IsRunning, HoldsWith, groups_in, input_of, course_of, history}
 use Rattle.yaml_scan.specs.inside.TextGoesOn.{RunningGoesOn, TextGoesOn, over_text}
 use Rattle.yaml_scan.proofs.Course.CourseSteps.{course_is_run}
-use Rattle.yaml_scan.proofs.Course.StepsNeeded.{oldest_length, split}
+use Rattle.yaml_scan.proofs.Course.StepsNeeded.{split}
 use Rattle.yaml_scan.proofs.RunningCalls.NextOfInput.{inside}
 use Rattle.yaml_scan.proofs.Texts.SourceLocality.{begun_text_reads_same, no_shorter}
 use Rattle.yaml_scan.proofs.Texts.SourceOrder.{texts_keep_order}

@@ -8,7 +8,7 @@ use Rattle.yaml_scan.specs.Cut.{IsRun, KeepsOrder}
 use Rattle.yaml_scan.specs.Groups.{Token, offline}
 use Rattle.yaml_scan.specs.Kind.{is_stream_end}
 use Rattle.yaml_scan.specs.Laid.{Laid, reach}
-use Rattle.yaml_scan.specs.Locality.{ReadsSame, SameBelow}
+use Rattle.yaml_scan.specs.Locality.{ReadsSame}
 use Rattle.yaml_scan.specs.Near.{place_of}
 use Rattle.yaml_scan.specs.Rests.{AllIsSettledAtRest, BeginningsAreShared, Share}
 use Rattle.yaml_scan.specs.Settled.{before, up_to}

@@ -1,30 +1,21 @@
 -- A step is the same in two sources that read the same up to its place.
-use Rattle.std.proofs.Common.{◌≡◌, ℕ, ◌+◌, ◌≤◌, Bool, true, false, List, [], ◌∷◌, ◌++◌, Option, Some, None, refl, ap, sym, ◌∙◌, subst, arith, inl, inr, ltb-false}
-use Rattle.std.specs.Prelude.{◌⊎◌, nat_lt, Result, Ok, Err, option_map}
-use Rattle.std.proofs.lemmas.Bool.{cases_Bool, false≢true}
-use Rattle.yaml_text.specs.Fault.{Fault}
+use Rattle.std.proofs.Common.{◌≡◌, ℕ, ◌≤◌, List, ◌∷◌, Option, Some, None, refl, ap, ◌∙◌, arith, inl, inr}
+use Rattle.std.specs.Prelude.{nat_lt, Result, Ok, Err}
+use Rattle.std.proofs.lemmas.Bool.{cases_Bool}
 use Rattle.yaml_text.specs.declared.types.yaml_mark_t.{yaml_mark_t}
 use Rattle.yaml_scan.specs.inside.StepParts.{gap_step, kind_step, read_step, after_read}
-use Rattle.yaml_scan.specs.Course.{Input, Course, next, course, course_from}
 use Rattle.yaml_scan.specs.Kind.{Kind, is_stream_end}
 use Rattle.yaml_scan.specs.Laid.{Laid}
 use Rattle.yaml_scan.specs.Depth.{depth}
 use Rattle.yaml_scan.specs.Allowed.{allowed_after}
 use Rattle.yaml_scan.specs.Levels.{laid, level}
-use Rattle.yaml_scan.specs.Settled.{before, tokens_of}
-use Rattle.yaml_scan.specs.Order.{IsHistory}
-use Rattle.yaml_scan.specs.Begins.{Begins}
 use Rattle.yaml_scan.specs.Source.{Source, Reading, Offence}
 use Rattle.yaml_scan.specs.Step.{Outcome, step, unless, refuse, stale}
 use Rattle.yaml_scan.specs.Step.{refused, clears, start_at, lexeme_of, place_after, gap_end_of}
-use Rattle.yaml_scan.specs.Step.Outcome.{Reads, Faults}
-use Rattle.yaml_scan.specs.Cut.{cut, IsRun, EndsWith, KeepsOrder}
-use Rattle.yaml_scan.specs.Near.{unless_near, is_near, place_of, starts_near}
-use Rattle.yaml_scan.specs.Locality.{place_read, ReadsSame, StepIsLocal, AgreesWith, TokensBeforeRefusal}
-use Rattle.yaml_scan.specs.Locality.{FaultBeforeRefusal}
-use Rattle.yaml_scan.proofs.Course.LongestCut.{orderly, cut_is_longest, IsHistory-from_run, run_at}
-use Rattle.yaml_scan.proofs.TokenList.SettledStays.{before-before}
-use Rattle.yaml_scan.proofs.Course.CourseSteps.{steps_of, steps_are, run_of_text, run_tail, not_longer, accepted_is_cut}
+use Rattle.yaml_scan.specs.Step.Outcome.{Reads}
+use Rattle.yaml_scan.specs.Cut.{KeepsOrder}
+use Rattle.yaml_scan.specs.Near.{place_of}
+use Rattle.yaml_scan.specs.Locality.{place_read, ReadsSame, StepIsLocal}
 
 -- ROWS OF A STEP
 module _ (r : ℕ) where

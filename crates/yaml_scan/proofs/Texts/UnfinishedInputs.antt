@@ -1,6 +1,6 @@
 -- What is settled of an unfinished input is that of every input that goes on from it. So it is of a refused one.
 use Rattle.std.proofs.Common.{◌≡◌, ℕ, ◌+◌, ◌≤◌, Bool, true, false, List, [], ◌∷◌, ◌++◌, map, Option, Some, None, refl, ap, sym, ◌∙◌, subst, arith, inl, inr, ltb-false}
-use Rattle.std.specs.Prelude.{◌⊎◌, nat_lt, option_map}
+use Rattle.std.specs.Prelude.{◌⊎◌, option_map}
 use Rattle.std.proofs.lemmas.Bool.{cases_Bool, le-ltb, false≢true}
 use Rattle.std.proofs.lemmas.List.{map-append}
 use Rattle.yaml_text.specs.Fault.{Fault}
