@@ -38,3 +38,5 @@ pub mod KeptTokens
 pub mod KeptFewer
 -- The calls of a kept parser: how they begin, and what they leave.
 pub mod KeptCalls
+-- A running scanner of an unfinished text is a running scanner of every text that goes on from it.
+pub mod LongerText

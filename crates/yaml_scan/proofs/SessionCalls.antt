@@ -23,3 +23,5 @@ pub mod CallWords
 pub mod ListWords
 -- The laws of tokens hold of what one call for all tokens returns.
 pub mod ListLaws
+-- Whatever the cuts and the calls, the tokens given are the first of the whole input.
+pub mod CutsAndCalls

@@ -9,9 +9,15 @@ pub mod SourceOrder
 pub mod TextOrder
 -- What is read of texts that agree a little past its end is the same.
 pub mod SourceLocality
--- So is a step, and what is handed out before a reader's fault.
+-- A step is the same in two sources that read the same up to its place.
 pub mod StepLocality
 -- A step is the same in two texts that agree a little past its end.
 pub mod TextSteps
 -- The answers to a refused input are those to every accepted one that agrees with it up to the refused character.
 pub mod AnswerLocality
+-- What is settled of an unfinished input is that of every input that goes on from it. So it is of a refused one.
+pub mod UnfinishedInputs
+-- What is settled of the bytes that came so far is that of every input that goes on from them.
+pub mod InputPieces
+-- What is read of the characters that two inputs share is the same, and at a rest all tokens are settled.
+pub mod SharedBeginnings

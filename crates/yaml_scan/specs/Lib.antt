@@ -29,7 +29,11 @@ pub mod Parser
 pub mod ParserCalls
 pub mod AnswerLaws
 pub mod Locality
+pub mod Unfinished
 pub mod Inputs
+pub mod Pieces
+pub mod Rests
+pub mod Fed
 pub mod All
 pub mod Sink
 pub mod Scanned

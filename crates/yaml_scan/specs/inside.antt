@@ -11,6 +11,7 @@ pub mod StepParts
 pub mod NearFault
 pub mod Holding
 pub mod Scanning
+pub mod TextGoesOn
 pub mod Handed
 pub mod Given
 pub mod MoreTaken

@@ -16,6 +16,11 @@ ghost use Rattle.yaml_scan.specs.AnswerLaws.{AnswersStandInOrder, AnswersEndFewe
 ghost use Rattle.yaml_scan.specs.AnswerLaws.{AnswersTellLexemes, AnswersTellAll, AnswersTellFault, RefusedTellFault};
 ghost use Rattle.yaml_scan.specs.Locality.{StepIsLocal, TokensBeforeRefusal, FaultBeforeRefusal, TextsAreLocal};
 ghost use Rattle.yaml_scan.specs.Locality.{TextsKeepOrder, TextStepIsLocal};
+ghost use Rattle.yaml_scan.specs.Fed.{CutsDoNotMatter};
+ghost use Rattle.yaml_scan.specs.Pieces.{PiecesGoOn};
+ghost use Rattle.yaml_scan.specs.Rests.{AllIsSettledAtRest, BeginningsAreShared};
+ghost use Rattle.yaml_scan.specs.inside.TextGoesOn.{RunningGoesOn};
+ghost use Rattle.yaml_scan.specs.Unfinished.{FaultGoesOn, StepsGoOn, TokensGoOn};
 ghost use Rattle.yaml_scan.specs.Inputs.{InputsKeepOrder, AllStandInOrder, AllEndFewer, AllEndAll, AllFollowKeys};
 ghost use Rattle.yaml_scan.specs.Inputs.{LateFaults};
 ghost use Rattle.yaml_scan.specs.Words.{AllHaveLines, SessionsHaveLines};
@@ -178,6 +183,35 @@ pub fn step_is_local()
     ensures fault { FaultBeforeRefusal }
     ensures texts { TextsAreLocal }
     ensures text { TextStepIsLocal }
+{}
+
+/// What is read and handed out of an unfinished input, and a fault that does not stand for what is to come, are those
+/// of every input that goes on from it, accepted or not. So it is of the bytes that came of an input, whatever more
+/// comes.
+pub fn unfinished_input_goes_on()
+    ensures steps { StepsGoOn }
+    ensures tokens { TokensGoOn }
+    ensures fault { FaultGoesOn }
+    ensures bytes { PiecesGoOn }
+{}
+
+/// Cuts do not matter: if each call gives the next tokens of every input that the bytes so far may begin, the tokens of
+/// all calls, joined, are the first of every input that all bytes, joined, may begin.
+pub fn cuts_do_not_matter()
+    ensures { CutsDoNotMatter }
+{}
+
+/// A running scanner of an unfinished text is a running scanner of every text that goes on from it, and has read the
+/// same lexemes.
+pub fn running_scanner_goes_on()
+    ensures { RunningGoesOn }
+{}
+
+/// What is read up to eight characters before the end of what two inputs share is read of both. Where no candidate is
+/// live all tokens are settled, whatever follows.
+pub fn beginnings_are_shared()
+    ensures steps { BeginningsAreShared }
+    ensures rest { AllIsSettledAtRest }
 {}
 
 /// What is read of a decoded text is in order, so the laws that require it hold of every decoded text.

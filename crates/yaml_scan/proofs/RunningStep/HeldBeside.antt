@@ -1,12 +1,13 @@
 -- What a scanner holds is held by another one with the same parts, or with more room.
 use Rattle.std.proofs.Common.{◌≡◌, ℕ, ◌≤◌, List, length, refl, subst, sym}
+use Rattle.yaml_text.specs.declared.types.yaml_mark_t.{yaml_mark_t}
 use Rattle.yaml_scan.specs.declared.groups.group_t.{group_t}
 use Rattle.yaml_scan.specs.inside.Scanner.{Scanner}
 use Rattle.yaml_scan.specs.Laid.{Laid}
 use Rattle.yaml_scan.specs.Order.{IsHistory}
 use Rattle.yaml_scan.specs.Settled.{before}
 use Rattle.yaml_scan.specs.inside.Holding.{HoldsKeys, HoldsLevels, HoldsQueue}
-use Rattle.yaml_scan.specs.inside.Scanning.{Beside, Holds, HoldsWith, counted, groups_in}
+use Rattle.yaml_scan.specs.inside.Scanning.{Beside, Holds, HoldsWith, Stays, at_marks, counted, groups_in}
 
 -- one whose queue is another
 pub holds_as : (H : List Laid) (n : ℕ) (s t : Scanner) {ys zs : List group_t} → HoldsWith H n s ys → t.text ≡ s.text → t.limit ≡ s.limit → t.slots ≡ s.slots → t.allowed ≡ s.allowed
@@ -55,4 +56,11 @@ holds_beside H n s t b h = record {
   reach = rw b.reach h.reach;
   taken = rw (b.taken, b.limit) h.taken;
   place = rw (b.text, b.reach) h.place;
+}
+
+-- another gap's end, or another place of an offence, changes nothing else
+pub marks_stay : (s : Scanner) (gap_end there : yaml_mark_t) → Stays s (at_marks s gap_end there)
+marks_stay s gap_end there = record {
+  same = record { text = refl; refusal = refl; near = refl; limit = refl; taken = refl; done = refl };
+  halts = record { text = refl; near = refl; limit = refl; outer = refl; empty = refl; top = refl; awaited = refl; allowed = refl; levels = refl; groups = refl; done = refl; early = refl; early_mark = refl; reach = refl; taken = refl; made = refl };
 }

@@ -23,23 +23,20 @@ use Rattle.yaml_scan.specs.Token.{yaml_token_t}
 use Rattle.yaml_scan.specs.inside.Handed.{HandsOut, LaysTo, StepsTo}
 use Rattle.std.proofs.lemmas.Bool.{false≢true}
 use Rattle.std.proofs.lemmas.List.{reverse-reverse}
-use Rattle.yaml_scan.proofs.RunningStep.HeldBeside.{holds_as, holds_beside}
+use Rattle.yaml_scan.proofs.RunningStep.HeldBeside.{holds_as, holds_beside, marks_stay}
 use Rattle.yaml_scan.proofs.RunningStep.StepLaid.{kind_there, level_within}
 
 pub stays_same : (s t : Scanner) → Beside s t → Stays s t
-stays_same s t b = record { same = record { text = b.text; refusal = b.refusal; near = b.near; limit = b.limit; taken = b.taken; done = b.done }; made = b.made; reach = b.reach }
+stays_same s t b = record { same = record { text = b.text; refusal = b.refusal; near = b.near; limit = b.limit; taken = b.taken; done = b.done }; halts = record { text = b.text; near = b.near; limit = b.limit; outer = b.outer; empty = b.empty; top = b.top; awaited = b.awaited; allowed = b.allowed; levels = b.levels; groups = b.groups; done = b.done; early = b.early; early_mark = b.early_mark; reach = b.reach; taken = b.taken; made = b.made } }
 
-pub halts_stays : (s t : Scanner) → Stays s t → Halts s t
-halts_stays s t e = let p = e.same in record { limit = p.limit; taken = p.taken; done = p.done; made = e.made; reach = e.reach }
-
-halts_on : (s t u : Scanner) → Stays s t → Halts t u → Halts s u
-halts_on s t u e h = let p = e.same in record { limit = h.limit ∙ p.limit; taken = h.taken ∙ p.taken; done = h.done ∙ p.done; made = h.made ∙ e.made; reach = h.reach ∙ e.reach }
+halts_trans : (s t u : Scanner) → Halts s t → Halts t u → Halts s u
+halts_trans s t u a b = record { text = b.text ∙ a.text; near = b.near ∙ a.near; limit = b.limit ∙ a.limit; outer = b.outer ∙ a.outer; empty = b.empty ∙ a.empty; top = b.top ∙ a.top; awaited = b.awaited ∙ a.awaited; allowed = b.allowed ∙ a.allowed; levels = b.levels ∙ a.levels; groups = b.groups ∙ a.groups; done = b.done ∙ a.done; early = b.early ∙ a.early; early_mark = b.early_mark ∙ a.early_mark; reach = b.reach ∙ a.reach; taken = b.taken ∙ a.taken; made = b.made ∙ a.made }
 
 pub same_trans : (s t u : Scanner) → Same s t → Same t u → Same s u
 same_trans s t u a b = record { text = b.text ∙ a.text; refusal = b.refusal ∙ a.refusal; near = b.near ∙ a.near; limit = b.limit ∙ a.limit; taken = b.taken ∙ a.taken; done = b.done ∙ a.done }
 
 pub stays_on : (s t u : Scanner) → Stays s t → Stays t u → Stays s u
-stays_on s t u a b = record { same = same_trans s t u a.same b.same; made = b.made ∙ a.made; reach = b.reach ∙ a.reach }
+stays_on s t u a b = record { same = same_trans s t u a.same b.same; halts = halts_trans s t u a.halts b.halts }
 
 -- READING
 pub read_in : (H : List Laid) (s : Scanner) (r : step_t) (t : Scanner) → CanRead H s r → CanRead H (at_there s t) r
@@ -70,24 +67,24 @@ read_then H s t r k o c e h = (
 )
 
 pub stays_read : (s t : Scanner) (k : Kind) (x : yaml_context_t) (o : Result code_lexeme_t yaml_refusal_t) → HasRead s t k x o → Stays s t
-stays_read s t k x o h = subst (λ (u : Scanner). Stays s u) (sym h.same) (record { same = record { text = refl; refusal = refl; near = refl; limit = refl; taken = refl; done = refl }; made = refl; reach = refl })
+stays_read s t k x o h = subst (λ (u : Scanner). Stays s u) (sym h.same) (marks_stay s s.gap_end t.there)
 
 -- A STEP AFTER WHAT STAYS
 ends_from : (H : List Laid) (s t : Scanner) → Stays s t → (f : Fault) → Ends H t f → Ends H s f
 ends_from H s t e f w = let q = e.same in (w.0, rw (← q.text, ← q.refusal, ← q.limit) w.1, w.2)
 
 refuses_from : (H : List Laid) (s t u : Scanner) (stop : stop_t) → Stays s t → Refuses H t u stop → Refuses H s u stop
-refuses_from H s t u stop e w = (elim w.0 [ inl m ↦ inl m | inr v ↦ inr (ends_from H s t e _ v) ], halts_on s t u e w.1)
+refuses_from H s t u stop e w = (elim w.0 [ inl m ↦ inl m | inr v ↦ inr (ends_from H s t e _ v) ], halts_trans s t u e.halts w.1)
 
 advances_from : (H : List Laid) (s t u : Scanner) (zs : List group_t) → Stays s t → AdvancesWith H t u zs → AdvancesWith H s u zs
 advances_from H s t u zs e a = let q = e.same in record {
   lexeme = a.lexeme;
   step = rw (← q.text, ← q.limit) a.step;
-  holds = rw (← q.limit, ← e.made) a.holds;
+  holds = rw (← q.limit, ← e.halts.made) a.holds;
   index = rw (← q.text) a.index;
   within = rw (← q.text) a.within;
   same = same_trans s t u e.same a.same;
-  made = a.made ∙ e.made;
+  made = a.made ∙ e.halts.made;
 }
 
 twice_from : (H : List Laid) (s t u : Scanner) (zs : List group_t) → Stays s t → AdvancesTwice H t u zs → AdvancesTwice H s u zs

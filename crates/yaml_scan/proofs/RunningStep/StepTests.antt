@@ -25,7 +25,7 @@ use Rattle.yaml_scan.specs.inside.Scanning.{CanLayAll, CanPut, CanRead, CanStep,
 use Rattle.yaml_scan.specs.inside.Scanning.{allowed_in, at_marks, groups_in, cleared_in, lost_after, met_in, refused_in}
 use Rattle.yaml_scan.proofs.History.LevelsFall.{open_columns-falls}
 use Rattle.yaml_scan.proofs.RunningCalls.NextOfInput.{ends_near, reads_near}
-use Rattle.yaml_scan.proofs.RunningStep.HeldBeside.{holds_as}
+use Rattle.yaml_scan.proofs.RunningStep.HeldBeside.{holds_as, marks_stay}
 use Rattle.yaml_scan.proofs.RunningStep.StepLaid.{index_is, place_within, row_offence, row_stale, step_reads}
 use Rattle.yaml_scan.proofs.RunningStep.TestsBefore.{allowed_is, gap_end_mark, kind_is, root_held, row_clears, row_lost, row_met, row_no_kind, row_refused}
 use Rattle.yaml_scan.proofs.Texts.TextPlaces.{index_within}
@@ -145,7 +145,7 @@ pub gap_end_can : (H : List Laid) (s : Scanner) (m : yaml_mark_t) → CanStep H 
 gap_end_can H s m c = let h = c.holds in record { holds = holds_as H (s.made + 1) s (at_gap_end s m) h refl refl refl refl refl refl h.queue h.taken; running = c.running; small = c.small; few_steps = c.few_steps; near = c.near }
 
 pub gap_end_stays : (s : Scanner) (m : yaml_mark_t) → Stays s (at_gap_end s m)
-gap_end_stays s m = record { same = record { text = refl; refusal = refl; near = refl; limit = refl; taken = refl; done = refl }; made = refl; reach = refl }
+gap_end_stays s m = marks_stay s m s.there
 
 module _ (H : List Laid) (s : Scanner) (c : CanStep H s) (in_flow : Bool) (FLOW : in_flow ≡ nat_lt 0 (vec_len s.slots.outer)) (m : yaml_mark_t)
     (G : (p : ℕ) → IsMarkOf s.text.chars s.reach p → IsMarkOf s.text.chars m ((source_of s.text.chars).gap in_flow s.allowed p)) where

@@ -29,7 +29,7 @@ use Rattle.yaml_scan.specs.Puts.{answered_all, HasNext, of_input, IsAnsweredAlik
 use Rattle.yaml_scan.proofs.SessionCalls.CallCases.{took, paced, looked, finished, scan_answer, peek_answer, after_scan, after_peek, after_skip}
 use Rattle.yaml_scan.proofs.Course.CourseSteps.{refused_has_fault}
 use Rattle.yaml_scan.proofs.Course.InputLaws.{inputs_keep_order, agree, encoding_is, late_faults}
-use Rattle.yaml_scan.proofs.Texts.StepLocality.{tokens_before_refusal, fault_before_refusal}
+use Rattle.yaml_scan.proofs.Texts.UnfinishedInputs.{tokens_before_refusal, fault_before_refusal}
 use Rattle.yaml_scan.proofs.SessionCalls.TokensTaken.{IsQuiet, quiet_calls, IsShowing, showing_after}
 use Rattle.yaml_scan.proofs.TokenList.NeverRevised.{Begins-trans}
 use Rattle.yaml_scan.proofs.SessionCalls.CallByCall.{of_session}

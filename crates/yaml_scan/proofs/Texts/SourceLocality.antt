@@ -1,6 +1,7 @@
 -- What is read of texts that agree a little past its end is the same.
-use Rattle.std.proofs.Common.{◌≡◌, ℕ, ◌+◌, ◌-◌, ◌≤◌, Bool, List, length, Option, Some, refl, ap, sym, ◌∙◌, subst, arith, inl, inr}
+use Rattle.std.proofs.Common.{◌≡◌, ℕ, zero, suc, ◌+◌, ◌-◌, ◌≤◌, ◌<◌, Bool, List, [], ◌∷◌, ◌++◌, length, slice_get, Option, Some, refl, ap, sym, ◌∙◌, subst, arith, inl, inr}
 use Rattle.std.specs.Prelude.{Result, Ok, Err}
+use Rattle.std.proofs.lemmas.List.{length-append}
 use Rattle.yaml_text.specs.declared.types.yaml_mark_t.{yaml_mark_t}
 use Rattle.yaml_lexeme.specs.declared.lex.yaml_context_t.{yaml_context_t}
 use Rattle.yaml_lexeme.specs.Lexeme.{Lexeme as yaml_lexeme_t}
@@ -21,6 +22,7 @@ use Rattle.yaml_lexeme.proofs.Locality.LexemeLocality.{lex_local_to}
 use Rattle.yaml_scan.proofs.Texts.LexemeReads.{lex_goes_on}
 use Rattle.yaml_lexeme.specs.FaultTexts.{problem_text, context_text}
 use Rattle.yaml_text.specs.Fault.{scanner_fault}
+use Rattle.yaml_scan.specs.Begins.{Begins}
 use Rattle.yaml_scan.specs.Kind.{Kind}
 use Rattle.yaml_scan.specs.Source.{Source, Reading, Offence}
 use Rattle.yaml_scan.specs.SourceOf.{count_to, reading, reading_of, source_of}
@@ -103,3 +105,19 @@ texts_are_local r a b s = elim (same_or_long (r + 8) a b s) [
   | inl e ↦ subst (λ (x : List ℕ). ReadsSame r (source_of a) (source_of x)) e (same_reads r (source_of a))
   | inr l ↦ long_reads r a b s l.0 l.1
 ]
+
+-- TEXTS THAT BEGIN ALIKE
+get_front : (a more : List ℕ) (i : ℕ) → i < length a → slice_get a i ≡ slice_get (a ++ more) i
+get_front [] more i l = absurd (omega arith)
+get_front (x ∷ a) more zero l = refl
+get_front (x ∷ a) more (suc i) l = get_front a more i (omega arith)
+
+pub same_front : (m : ℕ) (a b : List ℕ) → Begins a b → m ≤ length a → SameBelow m a b
+same_front m a b g l i j = rw g.is (get_front a g.rest i (omega arith))
+
+pub no_shorter : (a b : List ℕ) → Begins a b → length a ≤ length b
+no_shorter a b g = omega (arith, ap length g.is, length-append a g.rest)
+
+-- what is read of a text is read of each that it begins
+pub begun_text_reads_same : (a b : List ℕ) → Begins a b → (r : ℕ) → r + 8 ≤ length a → ReadsSame r (source_of a) (source_of b)
+begun_text_reads_same a b g r l = texts_are_local r a b (same_front (r + 8) a b g l)

@@ -1,30 +1,21 @@
--- So is a step, and what is handed out before a reader's fault.
-use Rattle.std.proofs.Common.{◌≡◌, ℕ, ◌+◌, ◌≤◌, Bool, true, false, List, [], ◌∷◌, ◌++◌, Option, Some, None, refl, ap, sym, ◌∙◌, subst, arith, inl, inr, ltb-false}
-use Rattle.std.specs.Prelude.{◌⊎◌, nat_lt, Result, Ok, Err, option_map}
-use Rattle.std.proofs.lemmas.Bool.{cases_Bool, false≢true}
-use Rattle.yaml_text.specs.Fault.{Fault}
+-- A step is the same in two sources that read the same up to its place.
+use Rattle.std.proofs.Common.{◌≡◌, ℕ, ◌≤◌, List, ◌∷◌, Option, Some, None, refl, ap, ◌∙◌, arith, inl, inr}
+use Rattle.std.specs.Prelude.{nat_lt, Result, Ok, Err}
+use Rattle.std.proofs.lemmas.Bool.{cases_Bool}
 use Rattle.yaml_text.specs.declared.types.yaml_mark_t.{yaml_mark_t}
 use Rattle.yaml_scan.specs.inside.StepParts.{gap_step, kind_step, read_step, after_read}
-use Rattle.yaml_scan.specs.Course.{Input, Course, next, course, course_from}
 use Rattle.yaml_scan.specs.Kind.{Kind, is_stream_end}
 use Rattle.yaml_scan.specs.Laid.{Laid}
 use Rattle.yaml_scan.specs.Depth.{depth}
 use Rattle.yaml_scan.specs.Allowed.{allowed_after}
 use Rattle.yaml_scan.specs.Levels.{laid, level}
-use Rattle.yaml_scan.specs.Settled.{before, tokens_of}
-use Rattle.yaml_scan.specs.Order.{IsHistory}
-use Rattle.yaml_scan.specs.Begins.{Begins}
 use Rattle.yaml_scan.specs.Source.{Source, Reading, Offence}
 use Rattle.yaml_scan.specs.Step.{Outcome, step, unless, refuse, stale}
 use Rattle.yaml_scan.specs.Step.{refused, clears, start_at, lexeme_of, place_after, gap_end_of}
-use Rattle.yaml_scan.specs.Step.Outcome.{Reads, Faults}
-use Rattle.yaml_scan.specs.Cut.{cut, IsRun, EndsWith, KeepsOrder}
-use Rattle.yaml_scan.specs.Near.{unless_near, is_near, place_of, starts_near}
-use Rattle.yaml_scan.specs.Locality.{place_read, ReadsSame, StepIsLocal, AgreesWith, TokensBeforeRefusal}
-use Rattle.yaml_scan.specs.Locality.{FaultBeforeRefusal}
-use Rattle.yaml_scan.proofs.Course.LongestCut.{orderly, cut_is_longest, IsHistory-from_run, run_at}
-use Rattle.yaml_scan.proofs.TokenList.SettledStays.{before-before}
-use Rattle.yaml_scan.proofs.Course.CourseSteps.{steps_of, steps_are, run_of_text, run_tail, not_longer, accepted_is_cut}
+use Rattle.yaml_scan.specs.Step.Outcome.{Reads}
+use Rattle.yaml_scan.specs.Cut.{KeepsOrder}
+use Rattle.yaml_scan.specs.Near.{place_of}
+use Rattle.yaml_scan.specs.Locality.{place_read, ReadsSame, StepIsLocal}
 
 -- ROWS OF A STEP
 module _ (r : ℕ) where
@@ -115,128 +106,3 @@ module _ (S : Source) (limit : ℕ) (H : List Laid) (k : KeepsOrder S) (w : plac
 
 pub step_is_local : StepIsLocal
 step_is_local S T limit H r k w e l = step_same S limit H k w T r e l
-
--- REFUSED INPUTS
-not_near : (size p : ℕ) → is_near size p ≡ false → p + 8 ≤ size
-not_near size p e = ltb-false size (p + 8) e
-
--- a step before the reader's fault is a step of the text, and not near
-record IsInTime (size : ℕ) (o y : Outcome) : Type 0 where
-  same : o ≡ y
-  far : place_of o + 8 ≤ size
-
-in_time : (size : ℕ) (f : Fault) (o y : Outcome) → unless_near size (Some f) o ≡ y → (y ≡ Faults (record { fault = f; place = size })) ⊎ IsInTime size o y
-in_time size f o y e = elim (cases_Bool (is_near size (place_of o))) [
-  | inl q ↦ inl (sym (rw q at e))
-  | inr q ↦ inr (record { same = rw q at e; far = not_near size (place_of o) q })
-]
-
-module _ (limit : ℕ) (a b : Input) (refusal : Fault) (j : KeepsOrder a.source) (k : KeepsOrder b.source) (g : AgreesWith a b refusal) where
-  next_is : (H : List Laid) → next a limit H ≡ unless_near a.source.size (Some refusal) (step a.source limit H)
-  unfolding next
-  next_is H = ap (λ (o : Option Fault). unless_near a.source.size o (step a.source limit H)) g.refused
-
-  within : (H : List Laid) → IsRun (next a limit) limit H → place_after H ≤ a.source.size
-  within H r = run_at (step a.source limit) limit a.source.size (orderly a.source j limit) H (run_of_text limit a H r)
-
-  -- in time both have the same step
-  other_step : (H : List Laid) (y : Outcome) → IsRun (next a limit) limit H → next a limit H ≡ y → (y ≡ Faults (record { fault = refusal; place = a.source.size })) ⊎ (step b.source limit H ≡ y)
-  other_step H y r e = elim (in_time a.source.size refusal (step a.source limit H) y (sym (next_is H) ∙ e)) [
-    | inl q ↦ inl q
-    | inr q ↦ inr (step_is_local a.source b.source limit H (place_of (step a.source limit H)) j (within H r) (g.same (place_of (step a.source limit H)) q.far) (omega arith) ∙ q.same)
-  ]
-
-  pub other_run : (H : List Laid) → IsRun (next a limit) limit H → IsRun (step b.source limit) limit H
-  other_run [] r = tt
-  other_run (i ∷ H) r = (r.0, reads (other_step H (Reads i.lexeme) r.2 r.1), other_run H r.2, r.3)
-    where
-      reads : (Reads i.lexeme ≡ Faults (record { fault = refusal; place = a.source.size })) ⊎ (step b.source limit H ≡ Reads i.lexeme) → step b.source limit H ≡ Reads i.lexeme
-      reads (inl q) = cc
-      reads (inr q) = q
-
-  tail_is : (H : List Laid) → IsRun (next a limit) limit H → (Y : List Laid) × ((cut b.source limit).read ≡ Y ++ H)
-  tail_is H r = let c = cut_is_longest b.source limit k in run_tail (step b.source limit) limit H (cut b.source limit).read (cut b.source limit).fault (other_run H r) c.0 c.1
-
-  accepted_read : (course limit b).read ≡ (cut b.source limit).read
-  accepted_read = (accepted_is_cut limit b g.accepted).0
-
-  accepted_begun : (course limit b).begun ≡ true
-  unfolding course
-  accepted_begun = rw g.accepted refl
-
-  accepted_tokens : tokens_of limit (course limit b) ≡ before limit (cut b.source limit).read
-  accepted_tokens = rw accepted_begun (ap (before limit) accepted_read)
-
-  pub tokens_begin : Begins (tokens_of limit (course limit a)) (tokens_of limit (course limit b))
-  unfolding course
-  tokens_begin = rw accepted_tokens (go (starts_near a.source.size a.refusal))
-    where
-      go : (x : Bool) → Begins (tokens_of limit (course_from x a.refusal (steps_of limit a j))) (before limit (cut b.source limit).read)
-      go true = record { rest = before limit (cut b.source limit).read; is = refl }
-      go false =
-          let y = tail_is (steps_of limit a j).read (steps_are limit a j).0 in
-          let h = IsHistory-from_run (step b.source limit) limit b.source.size (orderly b.source k limit) (cut b.source limit).read (cut_is_longest b.source limit k).0 in
-          subst (λ (X : List Laid). Begins (before limit (steps_of limit a j).read) (before limit X)) (sym y.1) (before-before limit y.0 (steps_of limit a j).read (subst (λ (X : List Laid). IsHistory limit X) y.1 h))
-
-  -- after the same lexemes the same fault
-  one_end : (H : List Laid) (o : Offence) → IsRun (step b.source limit) limit H → EndsWith (step b.source limit) H (Some o)
-      → ((cut b.source limit).read ≡ H) × ((cut b.source limit).fault ≡ Some o)
-  one_end H o r w =
-      let c = cut_is_longest b.source limit k in
-      let y = run_tail (step b.source limit) limit H (cut b.source limit).read (cut b.source limit).fault r c.0 c.1 in
-      let e : (cut b.source limit).read ≡ H = whole y.0 y.1 in
-      (e, fault_is (cut b.source limit).fault (subst (λ (X : List Laid). EndsWith (step b.source limit) X (cut b.source limit).fault) e c.1))
-    where
-      whole : (Y : List Laid) → (cut b.source limit).read ≡ Y ++ H → (cut b.source limit).read ≡ H
-      whole [] q = q
-      whole (i ∷ Y) q = absurd (not_longer (step b.source limit) limit (i ∷ Y) H (Some o) (subst (λ (X : List Laid). IsRun (step b.source limit) limit X) q (cut_is_longest b.source limit k).0) w (omega arith))
-
-      faults_one : (x y : Offence) → Faults x ≡ Faults y → x ≡ y
-      faults_one x y q = cc
-
-      fault_is : (p : Option Offence) → EndsWith (step b.source limit) H p → p ≡ Some o
-      fault_is None v = absurd (false≢true (sym w.0 ∙ v))
-      fault_is (Some x) v = ap Some (faults_one x o (sym v.1 ∙ w.1))
-
-  accepted_fault : (course limit b).fault ≡ option_map (λ o. o.fault) (cut b.source limit).fault
-  accepted_fault = (accepted_is_cut limit b g.accepted).1
-
-  abbrev SameEnd : Course → Fault → Type 0
-  SameEnd c f = ((course limit b).fault ≡ Some f) × ((course limit b).read ≡ c.read) × (tokens_of limit (course limit b) ≡ tokens_of limit c)
-
-  of_fault : (f : Fault) (p : Option Offence) → (steps_of limit a j).fault ≡ p → option_map (λ o. o.fault) p ≡ Some f → (f ≡ refusal) ⊎ SameEnd (course_from false a.refusal (steps_of limit a j)) f
-  of_fault f None q e = cc
-  of_fault f (Some o) q e =
-      let w : EndsWith (next a limit) (steps_of limit a j).read (Some o) = subst (λ (x : Option Offence). EndsWith (next a limit) (steps_of limit a j).read x) q (steps_are limit a j).1 in
-      let r = (steps_are limit a j).0 in
-      elim (other_step (steps_of limit a j).read (Faults o) r w.1) [
-        | inl z ↦ inl (fault_of o e z)
-        | inr z ↦ inr (let n = one_end (steps_of limit a j).read o (other_run (steps_of limit a j).read r) (w.0, z) in
-            (accepted_fault ∙ ap (option_map (λ o. o.fault)) n.1 ∙ e, accepted_read ∙ n.0, accepted_tokens ∙ ap (before limit) n.0))
-      ]
-    where
-      some_fault : (x y : Fault) → Some x ≡ Some y → y ≡ x
-      some_fault x y q = cc
-
-      offence_is : (x y : Offence) → Faults x ≡ Faults y → x ≡ y
-      offence_is x y q = cc
-
-      fault_of : (o : Offence) → Some o.fault ≡ Some f → Faults o ≡ Faults (record { fault = refusal; place = a.source.size }) → f ≡ refusal
-      fault_of o e z = some_fault o.fault f e ∙ ap (λ (x : Offence). x.fault) (offence_is o (record { fault = refusal; place = a.source.size }) z)
-
-  pub fault_in_time : (f : Fault) → (course limit a).fault ≡ Some f → (f ≡ refusal) ⊎ SameEnd (course limit a) f
-  unfolding course
-  fault_in_time f e = go (starts_near a.source.size a.refusal) e
-    where
-      some_fault : (x y : Fault) → Some x ≡ Some y → y ≡ x
-      some_fault x y q = cc
-
-      go : (x : Bool) → (course_from x a.refusal (steps_of limit a j)).fault ≡ Some f → (f ≡ refusal) ⊎ SameEnd (course_from x a.refusal (steps_of limit a j)) f
-      go true e = inl (some_fault refusal f (sym g.refused ∙ e))
-      go false e = of_fault f (steps_of limit a j).fault refl e
-
-pub tokens_before_refusal : TokensBeforeRefusal
-tokens_before_refusal limit a b refusal j k g = tokens_begin limit a b refusal j k g
-
-pub fault_before_refusal : FaultBeforeRefusal
-fault_before_refusal limit a b refusal f j k g e = fault_in_time limit a b refusal j k g f e

@@ -386,19 +386,30 @@ pub record Offends (H : List Laid) (s : Scanner) (f : Fault) : Type 0 where
 abbrev pub Ends : List Laid → Scanner → Fault → Type 0
 Ends H s f = (o : Offence) × (next (input_of s) s.limit H ≡ Faults o) × (o.fault ≡ f)
 
--- a scanner that has made no step
+-- a scanner that has stopped: only its fault, the marks of the gap and of an offence, and how much room there is may
+-- be others
+pub record Halts (s t : Scanner) : Type 0 where
+  pub text : t.text ≡ s.text
+  pub near : t.near ≡ s.near
+  pub limit : t.limit ≡ s.limit
+  pub outer : t.slots.outer.items ≡ s.slots.outer.items
+  pub empty : t.slots.not_simple_keys ≡ s.slots.not_simple_keys
+  pub top : t.slots.top ≡ s.slots.top
+  pub awaited : t.slots.awaited ≡ s.slots.awaited
+  pub allowed : t.allowed ≡ s.allowed
+  pub levels : t.layout.levels.items ≡ s.layout.levels.items
+  pub groups : t.layout.queue.groups.items ≡ s.layout.queue.groups.items
+  pub done : t.layout.queue.done ≡ s.layout.queue.done
+  pub early : t.layout.queue.early ≡ s.layout.queue.early
+  pub early_mark : t.layout.queue.early_mark ≡ s.layout.queue.early_mark
+  pub reach : t.reach ≡ s.reach
+  pub taken : t.taken ≡ s.taken
+  pub made : t.made ≡ s.made
+
+-- a scanner that has made no step and has no other fault
 pub record Stays (s t : Scanner) : Type 0 where
   pub same : Same s t
-  pub made : t.made ≡ s.made
-  pub reach : t.reach ≡ s.reach
-
--- a scanner that has stopped
-pub record Halts (s t : Scanner) : Type 0 where
-  pub limit : t.limit ≡ s.limit
-  pub taken : t.taken ≡ s.taken
-  pub done : t.layout.queue.done ≡ s.layout.queue.done
-  pub made : t.made ≡ s.made
-  pub reach : t.reach ≡ s.reach
+  pub halts : Halts s t
 
 -- what is left of a step that stopped, since memory was refused or there is a fault
 abbrev pub Refuses : List Laid → Scanner → Scanner → stop_t → Type 0

@@ -3,7 +3,7 @@ use Rattle.yaml_scan.specs.declared.scanner.state_t.{state_t}
 use Rattle.yaml_scan.specs.inside.Scanner.{scanner_of}
 use Rattle.yaml_scan.specs.inside.Scanning.{Beside, IsMet, Stays}
 use Rattle.yaml_scan.proofs.RunningStep.StepTests.{falls_in, gap_end_line}
-use Rattle.yaml_scan.proofs.RunningStep.StepMoves.{halts_stays, ready, stays_same}
+use Rattle.yaml_scan.proofs.RunningStep.StepMoves.{ready, stays_same}
 use Rattle.yaml_scan.proofs.step.begin_step.Goals as goal
 
 pub step_of-requires-clause-falls : goal.step_of-requires-clause-falls
@@ -28,4 +28,4 @@ step_of-requires-clause-made g c = let w = c.requires.passes in let b = subst (�
 
 pub returns-in-Err-ensure_room : goal.returns-in-Err-ensure_room
 returns-in-Err-ensure_room g c = let e = c.in-Err-ensure_room.ensures c.args.text.now in
-    (inl (rw c.stopped-in-Err-ensure_room.ensures e.0), halts_stays (scanner_of c.args.text.now c.args.state.now) (scanner_of c.args.text.now c.ensure_room.new.state) (subst (λ (u : state_t). Stays (scanner_of c.args.text.now u) (scanner_of c.args.text.now c.ensure_room.new.state)) c.in-Ok.ensures.1 e.1))
+    (inl (rw c.stopped-in-Err-ensure_room.ensures e.0), (subst (λ (u : state_t). Stays (scanner_of c.args.text.now u) (scanner_of c.args.text.now c.ensure_room.new.state)) c.in-Ok.ensures.1 e.1).halts)
