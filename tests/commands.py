@@ -6,13 +6,15 @@ what it prints are compared; each other one is left out for a reason that is pri
 ./dev lists. A command that is in neither list is wrong. Each command of ./dev is called without a name, with wrong ones and
 with too many, and ./dev is asked for its help and its version. Each script of tests/ that needs a program says so if it is
 called without one, and all of them say what they do with --help, and how they are called with an option that they have not.
-What needs the built programs is left out if they are not there or older than the sources. Takes a minute.
+What needs the built programs is left out if they are not there or older than the sources. Takes one to two minutes.
 
 The commands of the READMEs at the top, in ffi/, rust/, python/, bench/ and the folders of uses/ are run one after the other, in
 a checkout of a commit in which nothing is built, with a kit that proves nothing (lib/kit.py, lib/readmes.py). The first that
 fails is told. What is left out has its reason, as has what needs a tool that is not there. Afterwards git sees no new file, and
 ./package, which comes last, takes the checkout. package.py does the same in its root, and runs all commands of the README of
 the tarball.
+
+So are the commands of docs/PERF.md by which the benchmark is measured, in a clone and with an unproved build (lib/start.py).
 """
 
 import importlib.machinery
@@ -214,10 +216,25 @@ def try_readmes(dev):
     return not wrong and count > 15
 
 
+def try_start(dev):
+    """The commands of docs/PERF.md, by which a copy at the start is made and timed."""
+    import start
+    why = start.reason()
+    if why:
+        print(f"commands: {start.DOCUMENT}: left out, since {why}")
+        return True
+    is_built = dev.is_built() and os.path.exists(os.path.join(TOP, start.PROGRAM))
+    with tempfile.TemporaryDirectory() as room:
+        wrong, count, left = start.try_recipe(room, is_built)
+    print("".join(f"commands: {start.DOCUMENT}: left out: {line}\n" for line in left), end="")
+    print(f"commands: {count} of {start.DOCUMENT}, {wrong or '0 wrong'}")
+    return not wrong and count > 5
+
+
 def main():
     dev = load_dev()
     good = [try_readmes(dev), try_commands(dev), try_wrong_names(), try_uses_of_docs(), try_table(dev), try_usages(dev)]
-    return 0 if all([*good, try_helps(dev), try_measures()]) else 1
+    return 0 if all([*good, try_helps(dev), try_measures(), try_start(dev)]) else 1
 
 
 if __name__ == "__main__":

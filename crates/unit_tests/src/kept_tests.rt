@@ -241,6 +241,8 @@ type told_t = (bool, bool, bool, bool);
 
 const GOES_ON: told_t = (false, false, false, false);
 
+const SHOWN: told_t = (false, false, false, true);
+
 const ENDED: told_t = (false, true, false, false);
 
 const FAULTY: told_t = (true, true, true, false);
@@ -311,6 +313,32 @@ fn expect_session(rt: &(impl Abort + AllocGlobal), input: &[u8], rows: &[(call_t
 fn no_token_goes_where_there_is_no_room(rt: HostRuntime) -> Result<(), Fail> {
     const ROWS: [(call_t, told_t, usize); 1] = [(call_t::GIVE(0), GOES_ON, 0)];
     expect_session(&rt, b"a", &ROWS);
+    Ok(())
+}
+
+/// A token that was shown is still shown after a call that gives none, and the next call gives it.
+#[test]
+fn shown_token_waits_for_room(rt: HostRuntime) -> Result<(), Fail> {
+    const ROWS: [(call_t, told_t, usize); 3] = [
+        (call_t::PEEK, SHOWN, 0),
+        (call_t::GIVE(0), SHOWN, 0),
+        (call_t::GIVE(1), GOES_ON, 1),
+    ];
+    expect_session(&rt, b"a", &ROWS);
+    Ok(())
+}
+
+/// A token that was shown before its parser was kept, here the scalar of two letters, is still shown.
+#[test]
+fn shown_token_is_kept(rt: HostRuntime) -> Result<(), Fail> {
+    let mut parser = yaml_parser_t::new(rt.alloc(), b"ab", ANY);
+    assert!(rt; yaml_parser_scan(&mut parser).is_ok());
+    assert!(rt; yaml_parser_peek(&mut parser).is_ok());
+    let kept = yaml_kept_parser_t::new(parser);
+    match kept.peeked() {
+        Some(token) => assert_eq!(rt; texts_len(token), 2),
+        None => return Err("no token is shown".into()),
+    }
     Ok(())
 }
 
