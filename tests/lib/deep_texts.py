@@ -29,24 +29,34 @@ def nested_keys(count):
 
 
 class Deep:
-    """A text that grows with a count, the number of its tokens, the key limit, and the kind of its fault, or `-`."""
+    """A text that grows with a count, the number of its tokens, the key limit, and the kind of its fault, or `-`. Then its flow
+    depth and its indentation levels, where they are most, if it has any."""
 
-    def __init__(self, name, text, tokens, limit=USUAL_LIMIT, fault="-"):
+    def __init__(self, name, text, tokens, limit=USUAL_LIMIT, fault="-", depth=None, levels=None):
         self.name, self.text, self.tokens, self.limit, self.fault = name, text, tokens, limit, fault
+        self.depth, self.levels = depth or none, levels or none
+
+    def length(self, count):
+        """How many bytes the text has in UTF-8."""
+        return len(self.text(count))
+
+
+def none(_):
+    return 0
 
 
 DEEP_TEXTS = [
-    Deep("openers", lambda n: "[" * n, lambda n: STREAM + n),
+    Deep("openers", lambda n: "[" * n, lambda n: STREAM + n, depth=lambda n: n),
     Deep("closers", lambda n: "]" * n, lambda n: STREAM + n),
-    Deep("sequences", lambda n: "- " * (n // 2), lambda n: STREAM + (BLOCK + 1) * (n // 2)),
-    Deep("more sequences", lambda n: "- " * n, lambda n: STREAM + (BLOCK + 1) * n),
+    Deep("sequences", lambda n: "- " * (n // 2), lambda n: STREAM + (BLOCK + 1) * (n // 2), levels=lambda n: n // 2),
+    Deep("more sequences", lambda n: "- " * n, lambda n: STREAM + (BLOCK + 1) * n, levels=lambda n: n),
     # the second `:` is the fault: a mapping began, its key has a value, and the scalar before the `:` is there
-    Deep("quoted keys on a line", lambda n: '"x": ' * n, lambda n: 1 + 1 + 3 + 1, fault="scanner"),
-    Deep("quoted keys on lines", lambda n: '"x":\n' * n, lambda n: STREAM + BLOCK + 3 * n),
-    Deep("keys of keys", lambda n: "? " * n, lambda n: STREAM + (BLOCK + 1) * n),
-    Deep("mappings in mappings", lambda n: "{a: " * n, lambda n: STREAM + 4 * n),
-    Deep("mappings as keys", lambda n: "{" * n + "a" + ": b}" * n, lambda n: STREAM + mappings_as_keys(n)),
-    Deep("sequences of mappings", lambda n: "[{a: b, " * (n // 2), lambda n: STREAM + 7 * (n // 2)),
+    Deep("quoted keys on a line", lambda n: '"x": ' * n, lambda n: 1 + 1 + 3 + 1, fault="scanner", levels=lambda n: 1),
+    Deep("quoted keys on lines", lambda n: '"x":\n' * n, lambda n: STREAM + BLOCK + 3 * n, levels=lambda n: 1),
+    Deep("keys of keys", lambda n: "? " * n, lambda n: STREAM + (BLOCK + 1) * n, levels=lambda n: n),
+    Deep("mappings in mappings", lambda n: "{a: " * n, lambda n: STREAM + 4 * n, depth=lambda n: n),
+    Deep("mappings as keys", lambda n: "{" * n + "a" + ": b}" * n, lambda n: STREAM + mappings_as_keys(n), depth=lambda n: n),
+    Deep("sequences of mappings", lambda n: "[{a: b, " * (n // 2), lambda n: STREAM + 7 * (n // 2), depth=lambda n: 2 * (n // 2)),
     Deep("blank lines", lambda n: "a" + "\n" * n + " b", lambda n: STREAM + 1),
     Deep("blank lines in quotes", lambda n: '"a' + " \n" * n + 'b"', lambda n: STREAM + 1),
     Deep("a literal of blank lines", lambda n: "|\n a" + "\n" * n + " b", lambda n: STREAM + 1),
@@ -58,6 +68,7 @@ DEEP_TEXTS = [
         "deeper and deeper",
         lambda n: "".join(" " * k + "a:\n" for k in range(levels(n))),
         lambda n: STREAM + (BLOCK + 3) * levels(n),
+        levels=levels,
     ),
     Deep("a tag of escapes", lambda n: "!" + "%41" * n + " a", lambda n: STREAM + 2),
     Deep(
@@ -65,5 +76,7 @@ DEEP_TEXTS = [
         nested_keys,
         lambda n: STREAM + BLOCK + -(-n // KEYS_IN_A_LINE) * (1 + mappings_as_keys(KEYS_IN_A_LINE, GREATEST_LIMIT)),
         limit=GREATEST_LIMIT,
+        depth=lambda n: KEYS_IN_A_LINE,
+        levels=lambda n: 1,
     ),
 ]
