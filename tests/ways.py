@@ -1,14 +1,14 @@
 #!/usr/bin/env python3
 """Takes all tokens of deep and long inputs in every way: ways.py PROGRAM.
 
-lib/ways.py has the ways: each public call that gives tokens, in Rattle and through C, and each command of the program. It is
+lib/taking.py has the ways: each public call that gives tokens, in Rattle and through C, and each command of the program. It is
 wrong if a public call has no row there. lib/deep_texts.py has the texts, and how many tokens and which fault each has. For each
 way there are texts with a flow depth, with indentation levels, with tokens and with bytes of at least 50,000, in UTF-8, and in
 both forms of UTF-16 with a byte order mark and without one. All tokens come, so no memory is wanted at some size.
 
 Then each request for memory is refused in turn while a text of 150 entries is taken, in each way. More than 100 requests are
-answered by the memory fault, and fewer than 100 of these faults come before the tenth token, so no list of tokens is made ahead
-of those that are taken. The program testbench, which is beside the given one, and ways.c make the calls. Needs a C compiler.
+answered by the memory fault, and fewer than 100 requests leave less than ten tokens, so no list of tokens is made ahead of those
+that are taken. The program testbench, which is beside the given one, and ways.c make the calls. Needs a C compiler.
 """
 
 import os
@@ -23,7 +23,7 @@ sys.path.insert(0, os.path.join(HERE, "lib"))
 sys.dont_write_bytecode = True
 from library import build_library
 from repository import TOP
-from ways import IN_UTF16, MANY, SIZE, WAYS, inputs_of, path_of, size_problems, table_problems, texts_of
+from taking import IN_UTF16, MANY, SIZE, WAYS, inputs_of, path_of, size_problems, table_problems, texts_of
 from worked import build_refuser, run, run_counted
 
 TIMEOUT = 120
@@ -55,15 +55,16 @@ def count_problem(way, path, taken):
 
 
 def early_faults(way, path, refuser):
-    """Refuses each request of a way in turn: how many faults of kind memory there are, and how many before the tenth token."""
+    """Refuses each request of a way in turn: how many faults of kind memory there are, and how many times there are less than ten
+    tokens, or none, since a list found no room."""
     tokens = OTHERS + TOKENS_OF_ENTRY * ENTRIES
     words = way.words("any", 1024, tokens)
     done, counts, _ = run_counted(path, words, ENTRY * ENTRIES, refuser, 0, after_reading=True)
     if way.answer(done) != (tokens, "-"):
         return 0, 0
     found = [way.answer(run(path, words, ENTRY * ENTRIES, refuser, n, after_reading=True)) for n in range(1, sum(counts) + 1)]
-    before = [count for count, fault in found if fault == "memory"]
-    return len(before), sum(count < TENTH for count in before)
+    before = [count for count, fault in found if fault != "-"]
+    return sum(fault == "memory" for _, fault in found), sum(count < TENTH for count in before)
 
 
 def ahead_problem(way, path, refuser):
@@ -71,7 +72,7 @@ def ahead_problem(way, path, refuser):
     faults, early = early_faults(way, path, refuser)
     if faults > LEAST_FAULTS and early < MOST_EARLY:
         return None
-    return f"{way.name}: {faults} faults of kind memory, {early} of them before token {TENTH}"
+    return f"{way.name}: {faults} faults of kind memory, {early} requests that leave less than {TENTH} tokens"
 
 
 def try_all(program, room):

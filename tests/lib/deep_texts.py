@@ -1,4 +1,5 @@
-"""Deep and long inputs, and how many tokens each has: computed from how often a part is repeated, without reading the input."""
+"""Deep and long inputs, and how many tokens each has: computed from how often a part is repeated, without reading the input.
+For some also the lines of a listing."""
 
 import math
 
@@ -28,6 +29,20 @@ def nested_keys(count):
     return ("- " + "{" * KEYS_IN_A_LINE + "a" + ": b}" * KEYS_IN_A_LINE + "\n") * -(-count // KEYS_IN_A_LINE)
 
 
+def mark(index, line=0):
+    return f"{index}:{line}:{index if line == 0 else 0}"
+
+
+def one(kind, start, end):
+    return f"{kind} {start} {end}"
+
+
+def run_of(kind, count):
+    """The tokens of so many characters on one line, and the stream end after them."""
+    end = mark(count, 1)
+    return [one(kind, mark(k), mark(k + 1)) for k in range(count)] + [one("STREAM-END", end, end)]
+
+
 class Deep:
     """A text that grows with a count, the number of its tokens, the key limit, and the kind of its fault, or `-`. Then its flow
     depth and its indentation levels, where they are most, if it has any."""
@@ -50,6 +65,8 @@ DEEP_TEXTS = [
     Deep("closers", lambda n: "]" * n, lambda n: STREAM + n),
     Deep("sequences", lambda n: "- " * (n // 2), lambda n: STREAM + (BLOCK + 1) * (n // 2), levels=lambda n: n // 2),
     Deep("more sequences", lambda n: "- " * n, lambda n: STREAM + (BLOCK + 1) * n, levels=lambda n: n),
+    # the scalar waits, since it may be a key, while all levels are open
+    Deep("a scalar in sequences", lambda n: "- " * n + "a", lambda n: STREAM + (BLOCK + 1) * n + 1, levels=lambda n: n),
     # the second `:` is the fault: a mapping began, its key has a value, and the scalar before the `:` is there
     Deep("quoted keys on a line", lambda n: '"x": ' * n, lambda n: 1 + 1 + 3 + 1, fault="scanner", levels=lambda n: 1),
     Deep("quoted keys on lines", lambda n: '"x":\n' * n, lambda n: STREAM + BLOCK + 3 * n, levels=lambda n: 1),

@@ -13,7 +13,7 @@ from repository import found, read
 # Of each measure a text has at least so many: flow depth, indentation levels, tokens, and bytes.
 SIZE = 50_000
 # how often the parts of a text are repeated
-MANY = SIZE + 1_000
+MANY = 100_000
 MEASURES = ("depth", "levels", "tokens", "length")
 # so many calls are a word that a process may be given, and so many of them are peeks
 MOST_CALLS, PEEKS = 110_000, 10_000
@@ -25,7 +25,7 @@ UTF16 = [
 ]
 SETTINGS = ["any", "utf8", "utf16le", "utf16be"]
 # The texts that are taken in UTF-16 too. Together they have all measures.
-IN_UTF16 = ("openers", "more sequences", "mappings in mappings", "escapes")
+IN_UTF16 = ("openers", "a scalar in sequences", "mappings in mappings", "escapes")
 
 
 class Way:
@@ -147,8 +147,8 @@ def table_problems():
     """The public calls that have no row, and the rows whose call is gone."""
     rows = {call for way in WAYS for call in way.calls} | {call for calls in WITHOUT_TOKENS.values() for call in calls}
     calls = {*rattle_calls(), *c_calls(), *commands()}
-    yield from (f"lib/ways.py: {call} has no row" for call in sorted(calls - rows))
-    yield from (f"lib/ways.py: {call} is no public call" for call in sorted(rows - calls))
+    yield from (f"lib/taking.py: {call} has no row" for call in sorted(calls - rows))
+    yield from (f"lib/taking.py: {call} is no public call" for call in sorted(rows - calls))
 
 
 def texts_of(way):
