@@ -65,8 +65,8 @@ DEEP_TEXTS = [
     Deep("closers", lambda n: "]" * n, lambda n: STREAM + n),
     Deep("sequences", lambda n: "- " * (n // 2), lambda n: STREAM + (BLOCK + 1) * (n // 2), levels=lambda n: n // 2),
     Deep("more sequences", lambda n: "- " * n, lambda n: STREAM + (BLOCK + 1) * n, levels=lambda n: n),
-    # the scalar waits, since it may be a key, while all levels are open
-    Deep("a scalar in sequences", lambda n: "- " * n + "a", lambda n: STREAM + (BLOCK + 1) * n + 1, levels=lambda n: n),
+    # the key waits for its `:`, and is taken while all levels are open
+    Deep("a key in sequences", lambda n: "- " * n + "[a]: b", lambda n: STREAM + (BLOCK + 1) * n + BLOCK + 6, levels=lambda n: n + 1),
     # the second `:` is the fault: a mapping began, its key has a value, and the scalar before the `:` is there
     Deep("quoted keys on a line", lambda n: '"x": ' * n, lambda n: 1 + 1 + 3 + 1, fault="scanner", levels=lambda n: 1),
     Deep("quoted keys on lines", lambda n: '"x":\n' * n, lambda n: STREAM + BLOCK + 3 * n, levels=lambda n: 1),
