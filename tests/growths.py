@@ -3,10 +3,10 @@
 
 For each worked row of vectors/rows.txt its own command, and for each input of these rows, and of those that say how many steps
 are queued, a scan; the same for the inputs below; for all of these, lists of scans past the end, and of peeks with skips past
-the end, unless there is a key limit, which lists of calls have not in this program (sessions.py has them). The inputs below are 100 entries, and small
-ones with one step of each kind that takes memory, outside of flow and in flow. The first request is refused, then the second,
-and so on up to the last. The same for the deep rows, of 100,000 bytes, of which only some six requests of each command are
-refused.
+the end, unless there is a key limit, which lists of calls have not in this program (sessions.py has them). The inputs below are
+100 entries, and small ones with one step of each kind that takes memory, outside of flow and in flow. The first request is
+refused, then the second, and so on up to the last. The same for the deep rows, of 100,000 bytes, of which only some six
+requests of each command are refused.
 
 Each request that is made after the input and the calls were read is answered: the program is out of memory and has written
 nothing, or its lines are a beginning of those with ample memory, then the one fault of kind memory, and then, for a list of

@@ -1,9 +1,10 @@
 /* ways WAY LIMIT ENCODING < INPUT: how many tokens an input has, taken by calls of bogzhami.h, for tests/ways.py.
  *
- * WAY is `all` (one bogzhami_scan_all), `batches` (calls of bogzhami_next, each for 256 tokens), `ones` (each for one token) or
- * `peeks` (each for one token, after a bogzhami_peek that shows the same). ENCODING is a number of bogzhami_encoding. The answer
- * is a line: how many tokens there are up to the stream end or the fault, and the kind of the fault, or `-` for none. It is `?`
- * if a call returned something else. Nothing here takes memory but the calls, so that their requests can be refused. */
+ * WAY is `all` (one bogzhami_scan_all), `batches` (calls of bogzhami_next, each for 256 tokens), `ones` (each for one
+ * token) or `peeks` (each for one token, after a bogzhami_peek that shows the same). ENCODING is a number of
+ * bogzhami_encoding. The answer is a line: how many tokens there are up to the stream end or the fault, and the kind of
+ * the fault, or `-` for none. It is `?` if a call returned something else. Nothing here takes memory but the calls, so
+ * that their requests can be refused. */
 #include "bogzhami.h"
 
 #include <stdio.h>
@@ -51,7 +52,8 @@ static bool is_same(const struct bogzhami_token *a, const struct bogzhami_token 
            a->end_mark.index == b->end_mark.index;
 }
 
-/* Takes all tokens, so many a call. With peeks each call comes after one; a token that it does not show ends the calls. */
+/* Takes all tokens, so many a call. With peeks each call comes after one, and a token that it does not show ends the
+ * calls. */
 static struct taken take_by_calls(struct bogzhami_handle *handle, size_t len, size_t batch, bool peeks) {
     struct taken t = {0, BOGZHAMI_DONE, {0}};
     struct bogzhami_token shown = {0};
@@ -90,7 +92,8 @@ int main(int argc, char **argv) {
         return 2;
     size_t len = read_input();
     struct taken t = take_all(argv[1], len, (uint32_t)atoi(argv[3]), (uint32_t)atoi(argv[2]));
-    const char *fault = t.status == BOGZHAMI_FAULT ? bogzhami_error_name(t.answer.error) : is_ended(argv[1], &t) ? "-" : "?";
+    const char *end = is_ended(argv[1], &t) ? "-" : "?";
+    const char *fault = t.status == BOGZHAMI_FAULT ? bogzhami_error_name(t.answer.error) : end;
     int size = snprintf(line, sizeof line, "%llu %s\n", (unsigned long long)t.count, fault);
     return write(1, line, (size_t)size) != size;
 }

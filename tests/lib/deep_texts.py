@@ -73,7 +73,7 @@ DEEP_TEXTS = [
     Deep("keys of keys", lambda n: "? " * n, lambda n: STREAM + (BLOCK + 1) * n, levels=lambda n: n),
     Deep("mappings in mappings", lambda n: "{a: " * n, lambda n: STREAM + 4 * n, depth=lambda n: n),
     Deep("mappings as keys", lambda n: "{" * n + "a" + ": b}" * n, lambda n: STREAM + mappings_as_keys(n), depth=lambda n: n),
-    Deep("sequences of mappings", lambda n: "[{a: b, " * (n // 2), lambda n: STREAM + 7 * (n // 2), depth=lambda n: 2 * (n // 2)),
+    Deep("sequences of mappings", lambda n: "[{a: b, " * (n // 2), lambda n: STREAM + 7 * (n // 2), depth=lambda n: n // 2 * 2),
     Deep("blank lines", lambda n: "a" + "\n" * n + " b", lambda n: STREAM + 1),
     Deep("blank lines in quotes", lambda n: '"a' + " \n" * n + 'b"', lambda n: STREAM + 1),
     Deep("a literal of blank lines", lambda n: "|\n a" + "\n" * n + " b", lambda n: STREAM + 1),

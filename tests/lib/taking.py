@@ -50,7 +50,7 @@ class Way:
         return ["calls", setting, "s" * (made - peeks) + "pk" * peeks]
 
     def reached(self, most):
-        """How much of a measure is reached in a text that has so much of it. A depth or a level takes two calls at most."""
+        """How much of a measure is reached in a text that has so much of it, if two tokens are taken for each."""
         return min(most, MOST_CALLS // 2) if self.word.startswith("calls") else most
 
     def answer(self, done):
@@ -127,7 +127,8 @@ WITHOUT_TOKENS = {
 
 def rattle_calls():
     """The functions that lib.rt of yaml_scan makes public, and the public functions of the parsers."""
-    names = set(re.findall(r"\w+", " ".join(re.findall(r"(?s)\npub use [\w:]+::\{?(.*?)\}?;", read("crates/yaml_scan/src/lib.rt")))))
+    uses = re.findall(r"(?s)\npub use [\w:]+::\{?(.*?)\}?;", read("crates/yaml_scan/src/lib.rt"))
+    names = set(re.findall(r"\w+", " ".join(uses)))
     sources = [read(path) for crate in ("yaml_scan", "yaml_lexeme", "yaml_text") for path in found(f"crates/{crate}/src/*.rt")]
     yield from sorted(names & set(re.findall(r"(?m)^pub fn (\w+)", "".join(sources))))
     for text in sources:

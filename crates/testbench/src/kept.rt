@@ -4,9 +4,9 @@ ghost use Rattle.yaml_scan.specs.Parser.{Parser};
 ghost use Rattle.yaml_scan.specs.inside.Kept.{IsKept};
 
 use crate::count::{count_t, tally_t};
-use crate::session::{MOST_KEY_LIMIT, parser_of, start_t};
+use crate::session::{MOST_KEY_LIMIT, start_t};
 use std::alloc::Global;
-use yaml_scan::{yaml_kept_parser_t, yaml_kept_peek, yaml_kept_scan_to};
+use yaml_scan::{yaml_kept_parser_t, yaml_kept_peek, yaml_kept_scan_to, yaml_parser_t};
 
 /// A kept parser beside its input.
 #[derive(Drop)]
@@ -22,7 +22,12 @@ impl<'a> held_t<'a> {
         ensures { (p : Parser) × (p.input ≡ result.input.now) × IsKept p result.kept }
     {
         held_t {
-            kept: yaml_kept_parser_t::new(parser_of(alloc, start)),
+            kept: yaml_kept_parser_t::new(yaml_parser_t::with_key_limit(
+                alloc,
+                start.input,
+                start.setting,
+                start.limit,
+            )),
             input: start.input,
         }
     }

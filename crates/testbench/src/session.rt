@@ -2,7 +2,7 @@
 //!
 //! Nothing here takes memory after the input is read: the calls are made ready before, the input is read into an array,
 //! and lines are written piece by piece. So each request for memory comes from the call that is tested.
-ghost use Rattle.std.specs.Prelude.{◌≡◌, ◌≤◌, IfOk, IfSome, length};
+ghost use Rattle.std.specs.Prelude.{◌≤◌, IfOk, IfSome, length};
 
 use crate::ask::mark_at;
 use crate::bare::put_places;
@@ -40,7 +40,6 @@ pub struct start_t<'a> {
 pub fn parser_of<'a>(alloc: Global, start: start_t<'a>) -> yaml_parser_t<'a>
     requires least { 1 ≤ start.limit }
     requires most { start.limit ≤ MOST_KEY_LIMIT }
-    ensures { result.input ≡ start.input.now }
 {
     yaml_parser_t::with_key_limit(alloc, start.input, start.setting, start.limit)
 }
