@@ -2,13 +2,11 @@
 """Scans deep and long inputs with the program: deep.py PROGRAM.
 
 Depth and levels have no limit but the input's length. An input has 100,000 openers, closers, nested sequences, keys of keys,
-mappings as keys, blank lines and so on, and gives the lines that are expected. Its tokens are taken in six ways: by scans; by a
-peek and a skip for each; by lists of scans; by one sink; in batches that are given to a sink; and by the same calls with a sink
-that has no room. Each time they are as many as follows from how often its parts are repeated (lib/deep_texts.py), and no memory
-is wanted at some size. The time of a scan grows with the input: twice the input takes at most three times as long. Where the
-input outgrows a cache of the machine, one doubling may take longer; so it is wrong only if three doublings, one after the other,
-take longer. The time is user time, the best of three runs or more, so that a busy machine makes no difference. The program
-`testbench`, which is beside the given one, counts the tokens and takes the times.
+mappings as keys, blank lines and so on, and gives the lines that are expected (ways.py takes its tokens in all ways). The time
+of a scan grows with the input: twice the input takes at most three times as long. Where the input outgrows a cache of the
+machine, one doubling may take longer; so it is wrong only if three doublings, one after the other, take longer. The time is
+user time, the best of three runs or more, so that a busy machine makes no difference. The program `testbench`, which is beside
+the given one, takes the times.
 """
 
 import math
@@ -19,7 +17,7 @@ import sys
 
 sys.path.insert(0, os.path.join(os.path.dirname(os.path.abspath(__file__)), "lib"))
 sys.dont_write_bytecode = True
-from deep_texts import DEEP_TEXTS
+from deep_texts import DEEP_TEXTS, mark, one, run_of
 
 MANY = 100_000
 # the most that scanning twice the input may take, in times of scanning the input
@@ -33,20 +31,6 @@ MOST_PAIRS = 12
 DOUBLINGS = 3
 # in seconds; a scan that is linear needs much less
 TIMEOUT = 120
-
-
-def mark(index, line=0):
-    return f"{index}:{line}:{index if line == 0 else 0}"
-
-
-def one(kind, start, end):
-    return f"{kind} {start} {end}"
-
-
-def run_of(kind, count):
-    """The tokens of so many characters on one line, and the stream end after them."""
-    end = mark(count, 1)
-    return [one(kind, mark(k), mark(k + 1)) for k in range(count)] + [one("STREAM-END", end, end)]
 
 
 def sequences(count):
@@ -64,20 +48,6 @@ LINES = {
     "sequences": sequences(MANY // 2),
     "more sequences": sequences(MANY),
 }
-# The ways in which testbench takes all tokens: scans; a peek and a skip for each; lists of scans; one sink; batches that are
-# given to a sink; and calls whose sink has no room, so that each token is returned.
-WAYS = ["scans", "skips", "lists", "sink", "batches", "returned"]
-
-
-def count_problem(testbench, deep):
-    """What is wrong with the number of tokens in the ways to take them, or with the fault after them."""
-    wanted, problems = f"{deep.tokens(MANY)} {deep.fault}\n", []
-    for way in WAYS:
-        words = [testbench, "count", way, str(deep.limit)]
-        done = subprocess.run(words, input=deep.text(MANY).encode("ascii"), capture_output=True, timeout=TIMEOUT)
-        if (done.stdout.decode("ascii"), done.stderr, done.returncode) != (wanted, b"", 0):
-            problems.append(f"{way}: {done.stdout!r}, not {wanted!r}")
-    return "; ".join(problems)
 
 
 def seconds_of(testbench, text, limit):
@@ -136,7 +106,7 @@ def listing_problem(program, text, wanted):
 def problem(program, testbench, deep):
     try:
         listing = listing_problem(program, deep.text(MANY), LINES.get(deep.name))
-        return listing or count_problem(testbench, deep) or growth_problem(testbench, deep)
+        return listing or growth_problem(testbench, deep)
     except subprocess.TimeoutExpired:
         return f"took more than {TIMEOUT} seconds"
 
@@ -149,7 +119,7 @@ def main(program):
         if found:
             print(f"{deep.name}: {found}")
             wrong += 1
-    print(f"deep: {len(DEEP_TEXTS)} texts scanned in {1 + len(WAYS)} ways, {wrong} wrong")
+    print(f"deep: {len(DEEP_TEXTS)} texts scanned, {wrong} wrong")
     return 1 if wrong else 0
 
 

@@ -12,9 +12,9 @@ VERSION has, and names their numbers. Each request for memory of list.c is refus
 
 A scanner that is held gives what the scan at once gives, whatever the batches, rooms, peeks, turns, threads and refused
 requests are, wherever it is closed, and whichever other scanners of its input are closed before (held.c); valgrind and the
-address sanitizer find nothing. It gives all tokens of deep texts, and takes less than a megabyte besides a long input. How far
-it has read is that of paces.txt.gz. scanner.rs gives the same tokens one by one, in batches and after peeks, and borrows from the
-input what it can (held.rs). What needs a C compiler, its address sanitizer, rustc or valgrind is skipped if there is none.
+address sanitizer find nothing. It takes less than a megabyte besides a long input. How far it has read is that of paces.txt.gz.
+scanner.rs gives the same tokens one by one, in batches and after peeks, and borrows from the input what it can (held.rs). What
+needs a C compiler, its address sanitizer, rustc or valgrind is skipped if there is none.
 """
 
 import ctypes as c
@@ -31,7 +31,7 @@ HERE = os.path.dirname(os.path.abspath(__file__))
 CRATE = os.path.join(os.path.dirname(HERE), "crates", "yaml_c", "src")
 sys.path.insert(0, os.path.join(HERE, "lib"))
 sys.dont_write_bytecode = True
-from held import FFI, SETTINGS, VALGRIND, Handle, build_held, build_rust, inputs_of_tests, try_counts, try_long, try_reach
+from held import FFI, SETTINGS, VALGRIND, Handle, build_held, build_rust, inputs_of_tests, try_long, try_reach
 from held import try_rust, try_sanitized, try_tests, try_valgrind
 from library import VERSION, build_library
 from pages import try_pages
@@ -410,7 +410,6 @@ def try_held(room, every, rust):
         try_valgrind(programs[0], inputs),
         try_sanitized(room, inputs),
         not rust or try_rust(room, every),
-        try_counts(programs[0]),
         try_long(programs[0]),
         try_reach(MADE),
     ]

@@ -1,11 +1,12 @@
 #!/usr/bin/env python3
 """Refuses each request for memory in turn while the program runs: growths.py PROGRAM.
 
-For each worked row of vectors/rows.txt its own command, and for each of the inputs below and of the rows of calls a scan; for
-all of these, lists of scans past the end, and of peeks with skips past the end. The inputs below are 100 entries, and small
-ones with one step of each kind that takes memory, outside of flow and in flow. The first request is refused, then the second,
-and so on up to the last. The same for the deep rows, of 100,000 bytes, of which only some six requests of each command are
-refused.
+For each worked row of vectors/rows.txt its own command, and for each input of these rows, and of those that say how many steps
+are queued, a scan; the same for the inputs below; for all of these, lists of scans past the end, and of peeks with skips past
+the end, unless there is a key limit, which lists of calls have not in this program (sessions.py has them). The inputs below are
+100 entries, and small ones with one step of each kind that takes memory, outside of flow and in flow. The first request is
+refused, then the second, and so on up to the last. The same for the deep rows, of 100,000 bytes, of which only some six
+requests of each command are refused.
 
 Each request that is made after the input and the calls were read is answered: the program is out of memory and has written
 nothing, or its lines are a beginning of those with ample memory, then the one fault of kind memory, and then, for a list of
@@ -30,7 +31,7 @@ from concurrent.futures import ThreadPoolExecutor
 
 sys.path.insert(0, os.path.join(os.path.dirname(os.path.abspath(__file__)), "lib"))
 sys.dont_write_bytecode = True
-from worked import DEEP_ROWS, MEMORY, QUEUES, Session, build_refuser, is_ended, queued, rows, run_counted, session_of
+from worked import DEEP_ROWS, MEMORY, QUEUES, Session, build_refuser, is_ended, queued, rows, run_counted, scans, session_of
 from worked import takes_no_memory
 
 HUNDRED = b"- x\n" * 100
@@ -64,18 +65,25 @@ def lists_of_calls(setting, count):
     yield ["calls", setting, "pk" * min(count + 1, MOST_CALLS // 2) + "pps"]
 
 
+def other_rows():
+    """The rows that decode or make calls: the words, the input, and the lines of its decoding, or of a scan of it."""
+    scanned = {(words[1], data): lines for words, data, lines in scans() if len(words) == 2}
+    for words, data, lines in rows():
+        if words[0] == "calls":
+            whole = scanned[words[1], data]
+            if Session(whole).calls(words[2]) != lines:
+                raise SystemExit(f"growths: {words}, {data!r}: the row's lines are not those that follow from a scan")
+            yield words, data, whole
+        elif words[0] == "decode":
+            yield words, data, lines
+
+
 def commands(program):
     """What is run: the words, the input, and the lines of a scan of it, or of its decoding."""
-    small = [scanned(program, data) for data in [HUNDRED, *STEPS]]
-    for words, data, lines in [*rows(), *small]:
-        if words[0] == "calls":
-            whole = scanned(program, data)
-            if Session(whole[2]).calls(words[2]) != lines:
-                raise SystemExit(f"growths: {words}, {data!r}: the row's lines are not those that follow from a scan")
-            yield words, data, whole[2]
-            words, data, lines = whole
+    yield from other_rows()
+    for words, data, lines in [*scans(), *(scanned(program, data) for data in [HUNDRED, *STEPS])]:
         yield words, data, lines
-        if words[0] == "scan" and len(words) == 2:
+        if len(words) == 2:
             for word in lists_of_calls(words[1], len(lines)):
                 yield word, data, lines
 

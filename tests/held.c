@@ -1,5 +1,4 @@
 /* held TEST < INPUTS, or held long BYTES: checks a scanner that is held against bogzhami_scan_all, for tests/ffi.py.
- * held counts < INPUTS: how many tokens each input has, at once and by calls of the scanner that is held.
  *
  * An input is its encoding and its key limit in 4 bytes each, its length in 8 bytes, and its bytes. What a call has to
  * return is computed here from all tokens of the input, by the words of bogzhami.h. Printed are how many checks there
@@ -14,7 +13,6 @@
 #include <string.h>
 
 enum { MOST_TOKENS = 1000, SPARE = 3, FILL = 0xA5, PREFIXES = 20, FIRST_TOKENS = 10, MOST_SHOWN = 20 };
-enum { FAULT_TEXTS = 256 }; /* more bytes than the texts of a fault have */
 enum { MOST_BATCH = 40, LOW_LIMIT = 4, MANY = 16 };
 
 struct input {
@@ -953,62 +951,18 @@ static struct input repeated(const char *text, size_t len) {
     return i;
 }
 
-/* A room for the texts of tokens. */
-struct texts_room {
-    uint8_t *bytes;
-    size_t len;
-};
-
-/* Takes all tokens of an input, so many a call, each call after a peek if there are peeks. Returns how many there are,
- * and the status of the last call. */
-static uint64_t take_all(const struct input *i, struct texts_room room, size_t batch, bool peeks, uint32_t *last) {
+/* Takes all tokens of an input in batches of 256, and returns how many there are. */
+static uint64_t count_tokens(const struct input *i, uint8_t *room, size_t room_len) {
     struct bogzhami_handle handle = BOGZHAMI_CLOSED;
     uint64_t count = 0;
     uint32_t status = open_run(&handle, i);
     while (status == BOGZHAMI_DONE) {
-        if (peeks)
-            bogzhami_peek(&handle, i->bytes, i->len, tokens, room.bytes, room.len, &answer);
-        status = bogzhami_next(&handle, i->bytes, i->len, tokens, batch, room.bytes, room.len, &answer);
+        status = bogzhami_next(&handle, i->bytes, i->len, tokens, 256, room, room_len, &answer);
         count += answer.token_count;
     }
+    check(status == BOGZHAMI_OVER, "the end of a long input");
     check(bogzhami_close(&handle) == BOGZHAMI_DONE, "closing after all tokens of an input");
-    *last = status;
     return count;
-}
-
-/* Takes all tokens of an input in batches of 256, and returns how many there are. */
-static uint64_t count_tokens(const struct input *i, uint8_t *room, size_t room_len) {
-    uint32_t last;
-    uint64_t count = take_all(i, (struct texts_room){room, room_len}, 256, false, &last);
-    check(last == BOGZHAMI_OVER, "the end of a long input");
-    return count;
-}
-
-/* Prints how many tokens an input has: all at once, and by calls for 1 and for 256, and by calls after a peek. */
-static void print_counts(const struct input *i) {
-    static const size_t batches[] = {1, 256, 1};
-    struct texts_room room = {need(malloc(i->len + FAULT_TEXTS)), i->len + FAULT_TEXTS};
-    uint64_t counts[sizeof batches / sizeof *batches];
-    uint32_t end = bogzhami_scan_all(i->bytes, i->len, i->encoding, i->key_limit, tokens, 0, room.bytes, 0, &answer);
-    uint64_t whole = answer.token_count;
-    for (size_t n = 0; n < sizeof batches / sizeof *batches; n++) {
-        uint32_t last;
-        counts[n] = take_all(i, room, batches[n], n == 2, &last);
-        check(last == (end == BOGZHAMI_FAULT ? BOGZHAMI_FAULT : BOGZHAMI_OVER), "the end of a deep input");
-    }
-    printf("counts: %llu %llu %llu %llu\n", (unsigned long long)whole, (unsigned long long)counts[0],
-           (unsigned long long)counts[1], (unsigned long long)counts[2]);
-    free(room.bytes);
-}
-
-/* Prints the counts of each input. */
-static int try_counts(void) {
-    struct input i;
-    for (; read_input(&i); input_number++) {
-        print_counts(&i);
-        free(i.bytes);
-    }
-    return wrongs || !checks;
 }
 
 /* Scans so many bytes. Prints by how many kilobytes the peak of memory grew in that, and counts the tokens once more.
@@ -1076,8 +1030,6 @@ int main(int argc, char **argv) {
     setvbuf(stdout, NULL, _IOLBF, BUFSIZ); /* so that what was wrong is told before a crash */
     if (argc == 3 && !strcmp(argv[1], "long"))
         return try_long((size_t)strtoull(argv[2], NULL, 10));
-    if (argc == 2 && !strcmp(argv[1], "counts"))
-        return try_counts();
     while (argc == 2 && number < sizeof tests / sizeof *tests && strcmp(argv[1], tests[number].name))
         number++;
     if (argc != 2 || number == sizeof tests / sizeof *tests)

@@ -3,12 +3,13 @@
 
 The program testbench, which is beside the given one, makes the calls.
 
-For each worked row of vectors/rows.txt, `yaml_run` is called twice on one parser, `yaml_scan_all_limit` once, and
-scan, peek and skip one by one. After the input is read only these calls take memory. If `yaml_run` is
-refused room for its answers, the answers and the session are as before, and the next call returns what it would without
-that. Otherwise the answers are those with ample memory, or those up to some call, one fault of kind memory and
-idle ones; then no token is peeked, the fault is shown, and at most limit + 1 steps are queued. With all requests
-refused UTF-8 is decoded, and the reader's fault comes if the first step is near. Needs a C compiler.
+For each input of the worked rows of vectors/rows.txt, and of those that say how many steps are queued, `yaml_run` is called
+twice on one parser, `yaml_scan_all_limit` once, and scan, peek and skip one by one. After the input is read only these calls
+take memory. With ample memory nothing is refused. If a request is refused, it is answered: if `yaml_run` is refused room for
+its answers, the answers and the session are as before, and the next call returns what it would without that; if
+`yaml_scan_all_limit` is refused room for its list, there is none. Otherwise the answers are those up to some call, one fault of
+kind memory and idle ones; then no token is peeked, the fault is shown, and at most limit + 1 steps are queued. With all
+requests refused UTF-8 is decoded, and the reader's fault comes if the first step is near. Needs a C compiler.
 """
 
 import os
@@ -18,7 +19,7 @@ from concurrent.futures import ThreadPoolExecutor
 
 sys.path.insert(0, os.path.join(os.path.dirname(os.path.abspath(__file__)), "lib"))
 sys.dont_write_bytecode = True
-from worked import MEMORY, Session, build_refuser, is_ended, is_utf8, rows, run, session_of, takes_no_memory
+from worked import MEMORY, Session, build_refuser, is_ended, is_utf8, rows, run, run_counted, scans, session_of, takes_no_memory
 
 STYLES = dict(plain="PLAIN", single="SINGLE_QUOTED", double="DOUBLE_QUOTED", literal="LITERAL", folded="FOLDED")
 ZERO = "0:0:0"
@@ -49,14 +50,13 @@ def line_of(line):
 
 
 def asked(rows_of_scans):
-    """The words for testbench, the input, the row's lines, the setting and the limit."""
+    """The words for testbench, the input, and the row's lines."""
     for words, data, lines in rows_of_scans:
-        if words[0] == "scan":
-            limit = words[2] if len(words) > 2 else "1024"
-            scans, peeks = "s" * (len(lines) + 2), "pk" * (len(lines) + 1)
-            runs = [["calls", scans, "psk"], ["calls", peeks, "psk"], ["calls", scans[:3] + "p", scans]]
-            for more in (*runs, ["all"], ["each", scans], ["each", peeks + "s"]):
-                yield [more[0], words[1], limit, *more[1:]], data, lines
+        limit = words[2] if len(words) > 2 else "1024"
+        scans, peeks = "s" * (len(lines) + 2), "pk" * (len(lines) + 1)
+        runs = [["calls", scans, "psk"], ["calls", peeks, "psk"], ["calls", scans[:3] + "p", scans]]
+        for more in (*runs, ["all"], ["each", scans], ["each", peeks + "s"]):
+            yield [more[0], words[1], limit, *more[1:]], data, lines
 
 
 def session_is(state, session, limit):
@@ -143,21 +143,21 @@ def judge(words, data, lines, done):
 
 
 def refuse_each(testbench, refuser, words, data, lines):
-    """Refuses the first request after the input was read, the second, and so on, until none of three in a row is missed.
+    """Refuses no request after the input was read, then each in turn, then one that is not made.
 
-    A refused request is answered, so after a run that is whole no other one is refused.
+    A refused request is answered, so only the first run and the last are whole.
     """
-    seen, in_a_row, number = {}, 0, 0
-    while in_a_row < 3 and number < 5000:
-        number += 1
-        done = run(testbench, words, data, refuser, str(number), after_reading=True)
+    seen, number, requests = {}, 0, 0
+    while number <= requests + 1:
+        done, counts, held = run_counted(testbench, words, data, refuser, number, after_reading=True)
+        requests = sum(counts) if number == 0 else requests
         kind = judge(words, data, lines, done)
-        if kind not in (None, "whole") and in_a_row:
+        if held or (kind == "whole") != (number in (0, requests + 1)):
             kind = None
         if kind is None:
-            print(f"{words}, {data[:80]!r}, {number}: {done.returncode}, {done.stdout[-600:]!r}, {done.stderr!r}")
+            print(f"{words[:3]}, {data[:80]!r}, {number}: {done.returncode}, {done.stdout[-600:]!r}, {done.stderr!r}, {held} blocks")
         seen[kind] = seen.get(kind, 0) + 1
-        in_a_row = in_a_row + 1 if kind == "whole" else 0
+        number += 1
     return seen
 
 
@@ -190,7 +190,7 @@ def without_memory(testbench, refuser):
 
 def main(program):
     testbench = os.path.join(os.path.dirname(program), "..", "..", "testbench", "out", "testbench")
-    every = list(asked(rows()))
+    every = list(asked(scans()))
     total = {"whole": 0, "refused": 0, "wanted": 0, None: 0}
     with tempfile.TemporaryDirectory() as room:
         refuser = build_refuser(room)

@@ -75,8 +75,9 @@ def rt(folder, *words):
 
 
 def without_options(row):
-    """The words of a row's program, which request for memory is refused, if one is, and whether requests are counted."""
-    words = [word for word in row.words[1:] if word != COUNT]
+    """The words of a row's program, in which a part may be repeated as in its input, which request for memory is refused, if one
+    is, and whether requests are counted."""
+    words = [bytes_of(word).decode("ascii") for word in row.words[1:] if word != COUNT]
     refused = words[words.index(REFUSE) + 1] if REFUSE in words else ""
     return words[: words.index(REFUSE)] if refused else words, refused, COUNT in row.words
 

@@ -8,8 +8,6 @@ import struct
 import subprocess
 from concurrent.futures import ThreadPoolExecutor
 
-from deep_texts import DEEP_TEXTS
-
 HERE = os.path.dirname(os.path.dirname(os.path.abspath(__file__)))
 FFI = os.path.join(os.path.dirname(HERE), "ffi")
 SETTINGS = ["any", "utf8", "utf16le", "utf16be"]
@@ -50,7 +48,6 @@ LONG_TEXTS = [
 
 LONG = 100_000_000  # bytes of an input that is scanned in batches of 256
 MOST_GROWTH = 1000  # kilobytes that this may take besides the input
-DEEP = 100_000  # how often the parts of a deep text are repeated
 
 
 def packed(rows):
@@ -172,17 +169,6 @@ def try_long(program):
     grown = int(told.split(" kilobytes")[0].rsplit(" ", 1)[1]) if good else None
     print(f"ffi: held {told}, at most {MOST_GROWTH}")
     return good and grown <= MOST_GROWTH
-
-
-def try_counts(program):
-    """How many tokens deep texts have: all at once, and by calls for 1 and for 256, and by calls after a peek."""
-    rows = [(("any", str(deep.limit)), deep.text(DEEP).encode("ascii"), None) for deep in DEEP_TEXTS]
-    told, good = run_test([program, "counts"], packed(rows))
-    found = [line.removeprefix("counts: ") for line in told.splitlines() if line.startswith("counts: ")]
-    wanted = [" ".join(4 * [str(deep.tokens(DEEP))]) for deep in DEEP_TEXTS]
-    wrong = [f"{deep.name}: {line}, not {want}" for deep, line, want in zip(DEEP_TEXTS, found, wanted) if line != want]
-    print(f"ffi: held counts, {len(DEEP_TEXTS)} deep texts taken in 4 ways, {len(wrong)} wrong {wrong[:3] or ''}")
-    return good and found == wanted
 
 
 class Handle(c.Structure):

@@ -4,6 +4,8 @@ import os
 import subprocess
 import threading
 
+from deep_texts import run_of
+
 HERE = os.path.dirname(os.path.dirname(os.path.abspath(__file__)))
 MEMORY = "FAULT memory"
 IDLE = {"s": "NO-TOKEN", "p": "PEEK NO-TOKEN", "k": "SKIP NOTHING"}
@@ -15,6 +17,35 @@ QUEUES = [
     (b"[" * 6, 4, "sp", [0, 5]),
     (b"&a b: c", 1024, "spsss", [0, 3, 3, 3, 2]),
 ]
+# Scans of the inputs of those worked rows that decode or make calls, where no other row scans them: the encoding that is set,
+# the input, and the lines.
+OTHER_SCANS = [
+    ("any", b"[a]", "STREAM-START 0:0:0 0:0:0 UTF8 / FLOW-SEQUENCE-START 0:0:0 1:0:1 / SCALAR 1:0:1 2:0:2 plain 61 / "
+     "FLOW-SEQUENCE-END 2:0:2 3:0:3 / STREAM-END 3:1:0 3:1:0"),
+    ("any", b"a: b: c", "STREAM-START 0:0:0 0:0:0 UTF8 / BLOCK-MAPPING-START 0:0:0 0:0:0 / KEY 0:0:0 0:0:0 / "
+     "SCALAR 0:0:0 1:0:1 plain 61 / VALUE 1:0:1 2:0:2 / SCALAR 3:0:3 4:0:4 plain 62 / "
+     "FAULT scanner 4:0:4 4:0:4 -; mapping values are not allowed in this context"),
+    ("any", b"anything: [", "STREAM-START 0:0:0 0:0:0 UTF8 / BLOCK-MAPPING-START 0:0:0 0:0:0 / KEY 0:0:0 0:0:0 / "
+     "SCALAR 0:0:0 8:0:8 plain 616e797468696e67 / VALUE 8:0:8 9:0:9 / FLOW-SEQUENCE-START 10:0:10 11:0:11 / "
+     "STREAM-END 11:1:0 11:1:0"),
+    ("any", b"\xe2\x80\xa8", "STREAM-START 0:0:0 0:0:0 UTF8 / STREAM-END 3:1:0 3:1:0"),
+    ("any", b"\xef\xbb\xbfa", "STREAM-START 0:0:0 0:0:0 UTF8 / SCALAR 0:0:0 1:0:1 plain 61 / STREAM-END 1:1:0 1:1:0"),
+    ("utf8", b"\xef\xbb\xbfa", "STREAM-START 0:0:0 0:0:0 UTF8 / SCALAR 3:0:1 4:0:2 plain 61 / STREAM-END 4:1:0 4:1:0"),
+    ("any", b"\xef\xbb\xbf\xff", "FAULT reader 3 255 invalid leading UTF-8 octet"),
+    ("any", b"\xe0\x80\x80", "FAULT reader 0 -1 invalid length of a UTF-8 sequence"),
+    ("any", b"\xf4\x90\x80\x80", "FAULT reader 0 1114112 invalid Unicode character"),
+    ("any", b"\xc2\x80", "FAULT reader 0 128 control characters are not allowed"),
+    ("any", b"\xef\xbf\xbf", "FAULT reader 0 65535 control characters are not allowed"),
+    ("any", b"\xfe\xff\x26\x3a", "STREAM-START 0:0:0 0:0:0 UTF16BE / SCALAR 0:0:0 3:0:1 plain e298ba / STREAM-END 3:1:0 3:1:0"),
+    ("utf16be", b"\xfe\xff\x26\x3a", "STREAM-START 0:0:0 0:0:0 UTF16BE / SCALAR 3:0:1 6:0:2 plain e298ba / "
+     "STREAM-END 6:1:0 6:1:0"),
+    ("any", b"\xfe\xff", "STREAM-START 0:0:0 0:0:0 UTF16BE / STREAM-END 0:0:0 0:0:0"),
+    ("any", b"\xfe\xff\xff\xff", "FAULT reader 2 65535 control characters are not allowed"),
+    ("utf16be", b"\xd8\x00", "FAULT reader 0 -1 incomplete UTF-16 surrogate pair"),
+    ("utf16be", b"\xd8\x00\xdc\x00", "STREAM-START 0:0:0 0:0:0 UTF16BE / SCALAR 0:0:0 4:0:1 plain f0908080 / "
+     "STREAM-END 4:1:0 4:1:0"),
+    ("utf8", b"\xff\xfe", "FAULT reader 0 255 invalid leading UTF-8 octet"),
+]
 # The worked rows that are too long for vectors/rows.txt. Their lines are those of tests/deep.py.
 DEEP_ROWS = [b"[" * 100_000, b"]" * 100_000, b"- " * 50_000]
 
@@ -25,6 +56,28 @@ def rows():
         for line in lines:
             words, data, wanted = line.rstrip("\n").split("\t")
             yield words.split(" "), bytes.fromhex(data.strip("-")), wanted.split(" / ") if wanted else []
+
+
+def openers(count):
+    """The lines of a scan of so many `[`."""
+    return ["STREAM-START 0:0:0 0:0:0 UTF8", *run_of("FLOW-SEQUENCE-START", count)]
+
+
+def scans():
+    """A scan of each input of the worked rows, and of those of QUEUES: the words, the input, and the lines.
+
+    An input of a row that decodes or makes calls has to have one.
+    """
+    every = [(words, data, lines) for words, data, lines in rows() if words[0] == "scan"]
+    every += [(["scan", setting], data, text.split(" / ")) for setting, data, text in OTHER_SCANS]
+    for data, limit, word, _ in QUEUES:
+        if word == "sp":
+            every.append((["scan", "any", *([] if limit == 1024 else [str(limit)])], data, openers(len(data))))
+    scanned = {(words[1], data) for words, data, _ in every if len(words) == 2}
+    for words, data, _ in rows():
+        if (words[1], data) not in scanned and len(words) == (3 if words[0] == "calls" else 2):
+            raise SystemExit(f"worked.py: no scan of the input of {words}, {data!r}")
+    return every
 
 
 def queued(testbench, data, limit, word):

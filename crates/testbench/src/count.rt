@@ -1,25 +1,27 @@
 //! How many tokens an input has, taken in one of several ways.
 ghost use Rattle.std.specs.Prelude.{◌≤◌};
 
-use crate::session::{MOST_KEY_LIMIT, wrong_words};
+use crate::kept::by_kept;
+use crate::session::{MOST_KEY_LIMIT, parser_of, start_t, wrong_words};
 use std::alloc::{AllocError, Global};
 use std::io;
 use yaml_scan::{
-    unnamed_yaml_token_t_data, yaml_answer_t, yaml_call_t, yaml_encoding_t, yaml_fault_t,
-    yaml_parser_has_token, yaml_parser_peek, yaml_parser_scan, yaml_parser_skip, yaml_parser_t,
-    yaml_run, yaml_scan_next_to, yaml_scan_to, yaml_token_sink_t, yaml_token_t,
+    unnamed_yaml_token_t_data, yaml_answer_t, yaml_call_t, yaml_fault_t, yaml_parser_has_token,
+    yaml_parser_peek, yaml_parser_scan, yaml_parser_skip, yaml_parser_t, yaml_run, yaml_scan_all,
+    yaml_scan_all_limit, yaml_scan_next, yaml_scan_next_to, yaml_scan_to, yaml_token_sink_t,
+    yaml_token_t, yaml_token_type_t,
 };
 
-/// How many scans are in a list of calls, and for how many tokens a sink has room at a call.
+/// For how many tokens a list of calls is, and a sink has room at a call.
 const MANY: usize = 256;
 
 /// The tokens that were counted, and the fault that came after them, if one did.
 #[derive(Drop)]
-struct count_t {
+pub struct count_t {
     tokens: u64,
     fault: Option<yaml_fault_t>,
     /// Whether the stream end or the fault came.
-    over: bool,
+    pub over: bool,
 }
 
 impl count_t {
@@ -37,7 +39,14 @@ impl count_t {
         self.over = matches!(token.token_data, unnamed_yaml_token_t_data::STREAM_END);
     }
 
-    fn end(&mut self, fault: yaml_fault_t) {
+    /// Counts a token of which a peek told the type.
+    fn show(&mut self, kind: yaml_token_type_t) {
+        self.tokens = self.tokens.wrapping_add(1);
+        self.over = matches!(kind, yaml_token_type_t::YAML_STREAM_END_TOKEN);
+    }
+
+    /// Keeps the fault that came.
+    pub fn end(&mut self, fault: yaml_fault_t) {
         self.fault = Some(fault);
         self.over = true;
     }
@@ -45,9 +54,18 @@ impl count_t {
 
 /// Counts the tokens that it is given. At each call it has room for so many.
 #[derive(Drop)]
-struct tally_t {
-    count: count_t,
-    room: u128,
+pub struct tally_t {
+    pub count: count_t,
+    pub room: u128,
+}
+
+impl tally_t {
+    pub fn new(room: u128) -> tally_t {
+        tally_t {
+            count: count_t::new(),
+            room,
+        }
+    }
 }
 
 impl yaml_token_sink_t for tally_t {
@@ -95,6 +113,24 @@ fn by_scans(parser: &mut yaml_parser_t) -> count_t {
     count
 }
 
+/// Takes all tokens by scans that say whether a token is the last.
+fn by_next(parser: &mut yaml_parser_t) -> count_t {
+    let mut count = count_t::new();
+    'tokens: for _ in 0..u64::MAX {
+        match yaml_scan_next(parser) {
+            Ok((token, last)) => {
+                count.take(&token);
+                count.over = last;
+            }
+            Err(fault) => count.end(fault),
+        }
+        if count.over {
+            break;
+        }
+    }
+    count
+}
+
 /// Takes all tokens by a peek and a skip for each.
 fn by_skips(parser: &mut yaml_parser_t) -> count_t {
     let mut count = count_t::new();
@@ -121,20 +157,49 @@ fn count_answers(count: &mut count_t, answers: &[yaml_answer_t]) {
         }
         match answer {
             yaml_answer_t::TOKEN(token) => count.take(token),
+            yaml_answer_t::PEEKED(kind, _, _) => count.show(*kind),
             yaml_answer_t::FAULT(fault) => count.end(*fault),
             _ => {}
         }
     }
 }
 
-/// Takes all tokens by lists of scans.
-fn by_lists(alloc: Global, parser: &mut yaml_parser_t) -> Result<count_t, AllocError> {
+/// A list that has some calls so many times.
+fn list_of(
+    alloc: Global,
+    calls: &[yaml_call_t],
+    times: usize,
+) -> Result<Vec<yaml_call_t>, AllocError> {
+    let mut list = Vec::new(alloc);
+    for _ in 0..times {
+        list.extend_from_slice(calls)?;
+    }
+    Ok(list)
+}
+
+/// Counts the tokens that a list of calls takes.
+fn count_list(
+    alloc: Global,
+    parser: &mut yaml_parser_t,
+    calls: &[yaml_call_t],
+    count: &mut count_t,
+) -> Result<(), AllocError> {
+    let mut answers = Vec::new(alloc);
+    yaml_run(parser, calls, &mut answers)?;
+    count_answers(count, &answers);
+    Ok(())
+}
+
+/// Takes all tokens by lists that have the calls for a token many times.
+fn by_lists(
+    alloc: Global,
+    parser: &mut yaml_parser_t,
+    calls: &[yaml_call_t],
+) -> Result<count_t, AllocError> {
     let mut count = count_t::new();
-    let scans = [yaml_call_t::SCAN; MANY];
+    let list = list_of(alloc, calls, MANY)?;
     'lists: for _ in 0..u64::MAX {
-        let mut answers = Vec::new(alloc);
-        yaml_run(parser, &scans, &mut answers)?;
-        count_answers(&mut count, &answers);
+        count_list(alloc, parser, &list, &mut count)?;
         if count.over {
             break;
         }
@@ -142,21 +207,59 @@ fn by_lists(alloc: Global, parser: &mut yaml_parser_t) -> Result<count_t, AllocE
     Ok(count)
 }
 
-/// Has all tokens given to one sink.
-fn by_sink(
+/// Takes all tokens by lists that have the calls for a token once, twice, four times and so on.
+fn by_longer_lists(
     alloc: Global,
-    input: &[u8],
-    setting: yaml_encoding_t,
-    limit: u32,
-) -> Result<count_t, AllocError>
-    requires least { 1 ≤ limit }
-    requires most { limit ≤ MOST_KEY_LIMIT }
+    parser: &mut yaml_parser_t,
+    calls: &[yaml_call_t],
+) -> Result<count_t, AllocError> {
+    let mut count = count_t::new();
+    let mut list = list_of(alloc, calls, 1)?;
+    'lists: for _ in 0..u64::MAX {
+        count_list(alloc, parser, &list, &mut count)?;
+        if count.over {
+            break;
+        }
+        list = list_of(alloc, &list, 2)?;
+    }
+    Ok(count)
+}
+
+/// Counts the tokens of a list, and the fault after them, if one is.
+fn count_listed(tokens: &[yaml_token_t], fault: Option<yaml_fault_t>) -> count_t {
+    let mut count = count_t::new();
+    for token in tokens {
+        count.take(token);
+    }
+    if let Some(fault) = fault {
+        count.end(fault);
+    }
+    count
+}
+
+/// Has all tokens put in a list, with the usual key limit.
+fn by_all(alloc: Global, start: start_t) -> Result<count_t, AllocError> {
+    let (tokens, fault) = yaml_scan_all(alloc, start.input, start.setting)?;
+    Ok(count_listed(&tokens, fault))
+}
+
+/// Has all tokens put in a list.
+fn by_all_limit(alloc: Global, start: start_t) -> Result<count_t, AllocError>
+    requires least { 1 ≤ start.limit }
+    requires most { start.limit ≤ MOST_KEY_LIMIT }
 {
-    let mut tally = tally_t {
-        count: count_t::new(),
-        room: u128::MAX,
-    };
-    if let Some(fault) = yaml_scan_to(alloc, input, setting, limit, &mut tally)? {
+    let (tokens, fault) = yaml_scan_all_limit(alloc, start.input, start.setting, start.limit)?;
+    Ok(count_listed(&tokens, fault))
+}
+
+/// Has all tokens given to one sink.
+fn by_sink(alloc: Global, start: start_t) -> Result<count_t, AllocError>
+    requires least { 1 ≤ start.limit }
+    requires most { start.limit ≤ MOST_KEY_LIMIT }
+{
+    let mut tally = tally_t::new(u128::MAX);
+    let given = yaml_scan_to(alloc, start.input, start.setting, start.limit, &mut tally)?;
+    if let Some(fault) = given {
         tally.count.end(fault);
     }
     Ok(tally.count)
@@ -164,10 +267,7 @@ fn by_sink(
 
 /// Takes all tokens by calls that give some to a sink, which has room for so many at each call.
 fn by_batches(parser: &mut yaml_parser_t, room: u128) -> count_t {
-    let mut tally = tally_t {
-        count: count_t::new(),
-        room,
-    };
+    let mut tally = tally_t::new(room);
     'calls: for _ in 0..u64::MAX {
         tally.room = room;
         match yaml_scan_next_to(parser, &mut tally) {
@@ -182,38 +282,58 @@ fn by_batches(parser: &mut yaml_parser_t, room: u128) -> count_t {
     tally.count
 }
 
-/// Counts the tokens of a parser in the way of a word.
+/// Counts the tokens of a parser that lists of calls take, in the way of a word.
 ///
 /// # Errors
 ///
-/// `InvalidInput` if the word is no way of a parser, or the error of a request for memory that failed outside of the
+/// `InvalidInput` if the word is no way of lists, or the error of a request for memory that failed outside of the
 /// scanner.
-fn count_by(alloc: Global, parser: &mut yaml_parser_t, way: &str) -> io::Result<count_t> {
+fn count_by_lists(alloc: Global, parser: &mut yaml_parser_t, way: &str) -> io::Result<count_t> {
+    let scan = [yaml_call_t::SCAN];
+    let skip = [yaml_call_t::PEEK, yaml_call_t::SKIP];
     match way {
-        "scans" => Ok(by_scans(parser)),
-        "skips" => Ok(by_skips(parser)),
-        "lists" => Ok(by_lists(alloc, parser)?),
-        "batches" => Ok(by_batches(parser, MANY as u128)),
-        "returned" => Ok(by_batches(parser, 0)),
+        "lists" => Ok(by_lists(alloc, parser, &scan)?),
+        "skip-lists" => Ok(by_lists(alloc, parser, &skip)?),
+        "longer-lists" => Ok(by_longer_lists(alloc, parser, &scan)?),
+        "longer-skip-lists" => Ok(by_longer_lists(alloc, parser, &skip)?),
         _ => Err(wrong_words()),
     }
 }
 
-/// Counts the tokens of an input in the way of a word: with a parser, or for `sink` with one call.
+/// Counts the tokens of a parser in the way of a word.
 ///
 /// # Errors
 ///
-/// As [`count_by`].
-fn counted(alloc: Global, input: &[u8], way: &str, limit: u32) -> io::Result<count_t>
-    requires least { 1 ≤ limit }
-    requires most { limit ≤ MOST_KEY_LIMIT }
-{
-    let any = yaml_encoding_t::YAML_ANY_ENCODING;
-    if way == "sink" {
-        return Ok(by_sink(alloc, input, any, limit)?);
+/// As [`count_by_lists`].
+fn count_by(alloc: Global, parser: &mut yaml_parser_t, way: &str) -> io::Result<count_t> {
+    match way {
+        "scans" => Ok(by_scans(parser)),
+        "next" => Ok(by_next(parser)),
+        "skips" => Ok(by_skips(parser)),
+        "batches" => Ok(by_batches(parser, MANY as u128)),
+        "returned" => Ok(by_batches(parser, 0)),
+        _ => count_by_lists(alloc, parser, way),
     }
-    let mut parser = yaml_parser_t::with_key_limit(alloc, input, any, limit);
-    count_by(alloc, &mut parser, way)
+}
+
+/// Counts the tokens of an input in the way of a word: by one call, by calls of a kept parser, or by calls of a parser.
+///
+/// # Errors
+///
+/// As [`count_by_lists`].
+fn counted(alloc: Global, start: start_t, way: &str) -> io::Result<count_t>
+    requires least { 1 ≤ start.limit }
+    requires most { start.limit ≤ MOST_KEY_LIMIT }
+{
+    match way {
+        "all" => Ok(by_all(alloc, start)?),
+        "all-limit" => Ok(by_all_limit(alloc, start)?),
+        "sink" => Ok(by_sink(alloc, start)?),
+        "kept" => Ok(by_kept(alloc, start, MANY as u128, false)),
+        "kept-ones" => Ok(by_kept(alloc, start, 1, false)),
+        "kept-peeks" => Ok(by_kept(alloc, start, 1, true)),
+        _ => count_by(alloc, &mut parser_of(alloc, start), way),
+    }
 }
 
 /// The line of a count: how many tokens there are, and the kind of the fault, or `-` for none.
@@ -228,16 +348,16 @@ fn line_of(alloc: Global, count: &count_t) -> io::Result<String> {
     })
 }
 
-/// Counts the tokens of an input in the way of a word: `scans`, `skips`, `lists`, `sink`, `batches` or `returned`.
+/// Counts the tokens of an input in the way of a word, as the front of `main.rt` names them.
 ///
 /// Returns a line: how many there are up to the stream end or the fault, and the kind of the fault, or `-` for none.
 ///
 /// # Errors
 ///
 /// `InvalidInput` if the word is no way, or the error of a request for memory that failed outside of the scanner.
-pub fn count(alloc: Global, input: &[u8], way: &str, limit: u32) -> io::Result<String>
-    requires least { 1 ≤ limit }
-    requires most { limit ≤ MOST_KEY_LIMIT }
+pub fn count(alloc: Global, start: start_t, way: &str) -> io::Result<String>
+    requires least { 1 ≤ start.limit }
+    requires most { start.limit ≤ MOST_KEY_LIMIT }
 {
-    line_of(alloc, &counted(alloc, input, way, limit)?)
+    line_of(alloc, &counted(alloc, start, way)?)
 }

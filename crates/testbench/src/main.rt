@@ -18,10 +18,19 @@
 //! sink, and with `measure decode` it is decoded. The answer is how many bytes were read, tokens scanned or bytes
 //! decoded, and the best and the median time in nanoseconds.
 //!
-//! With `count WAY` or `count WAY LIMIT` the tokens of the input are counted, up to the stream end or the fault. The
-//! answer is how many there are, and the kind of the fault, or `-` for none. WAY is `scans`, `skips` (a peek and a skip
-//! for each token), `lists` (calls of `yaml_run`, each with many scans), `sink` (one `yaml_scan_to`), `batches` (calls
-//! of `yaml_scan_next_to` with a sink that has room for many tokens) or `returned` (the same with one that has none).
+//! With `count WAY`, `count WAY LIMIT` or `count WAY LIMIT ENC` the tokens of the input are counted, up to the stream
+//! end or the fault. The answer is how many there are, and the kind of the fault, or `-` for none. After the input is
+//! read, only the calls and the answer take memory. WAY is one of these:
+//!
+//! - `scans`; `next` (calls of `yaml_scan_next`); `skips` (a peek and a skip for each token);
+//! - `lists` (calls of `yaml_run`, each with many scans); `skip-lists` (each with many peeks and skips); `longer-lists`
+//!   and `longer-skip-lists` (each list is twice as long as the one before);
+//! - `all` (one `yaml_scan_all`, which has the usual limit); `all-limit` (one `yaml_scan_all_limit`); `sink` (one
+//!   `yaml_scan_to`);
+//! - `batches` (calls of `yaml_scan_next_to` with a sink that has room for many tokens); `returned` (with one that has
+//!   none);
+//! - `kept` (calls of `yaml_kept_scan_to` with a sink that has room for many tokens); `kept-ones` (with room for one);
+//!   `kept-peeks` (with room for one, each after a `yaml_kept_peek`).
 //!
 //! With the word `rows` each line of the input is `ENC LIMIT WORD INPUT`, with the input in hexadecimal or `-`. The
 //! calls of WORD are made one by one on a parser of that input, and the answers are written as those of `each`, without
@@ -55,6 +64,7 @@ mod bare;
 mod batches;
 mod commands;
 mod count;
+mod kept;
 mod measure;
 mod rows;
 mod session;
@@ -66,7 +76,7 @@ use commands::list_session;
 use count::count;
 use measure::{measure, task_of, work_t};
 use rows::answer_row;
-use session::{MOST_KEY_LIMIT, limit_or_usual, wrong_words};
+use session::{MOST_KEY_LIMIT, limit_or_usual, setting_or_any, start_t, wrong_words};
 use std::alloc::Global;
 use std::io::{BufRead, BufReader, BufWriter, Read, Write};
 use std::{env, io};
@@ -117,19 +127,19 @@ fn answer_lines(rt: &HostRuntime, lines: lines_t) -> io::Result<()> {
 }
 
 /// What is told of an input: how many tokens it has, for `count WAY`, or how long a task takes, for `measure TASK`.
-fn told_of(rt: &HostRuntime, input: &[u8], words: &[String], limit: u32) -> io::Result<String>
-    requires least { 1 ≤ limit }
-    requires most { limit ≤ MOST_KEY_LIMIT }
+fn told_of(rt: &HostRuntime, start: start_t, words: &[String]) -> io::Result<String>
+    requires least { 1 ≤ start.limit }
+    requires most { start.limit ≤ MOST_KEY_LIMIT }
 {
     let word = word_at(words, 1);
     match word_at(words, 0) {
-        "count" => count(rt.alloc(), input, word, limit),
+        "count" => count(rt.alloc(), start, word),
         _ => Ok(measure(
             rt,
-            input,
+            start.input,
             work_t {
                 task: task_of(word),
-                limit,
+                limit: start.limit,
             },
         )??),
     }
@@ -138,9 +148,15 @@ fn told_of(rt: &HostRuntime, input: &[u8], words: &[String], limit: u32) -> io::
 /// Reads the input, and writes what is told of it.
 fn tell_input(rt: &HostRuntime, words: &[String]) -> io::Result<()> {
     let limit = limit_or_usual(word_at(words, 2)).ok_or(wrong_words())?;
+    let setting = setting_or_any(word_at(words, 3))?;
     let mut input = Vec::new(rt.alloc());
     rt.reader().read_to_end(&mut input)?;
-    let text = told_of(rt, &input, words, limit)?;
+    let start = start_t {
+        input: &input,
+        setting,
+        limit,
+    };
+    let text = told_of(rt, start, words)?;
     io::writer(rt).write_all(text.as_bytes())
 }
 

@@ -510,6 +510,15 @@ pub fn checked_setting(word: &str) -> io::Result<yaml_encoding_t> {
     setting_of(word).ok_or(wrong_words())
 }
 
+/// The encoding setting of a word, or that of any encoding if the word is empty, or the error for words that are no
+/// command.
+pub fn setting_or_any(word: &str) -> io::Result<yaml_encoding_t> {
+    match word {
+        "" => Ok(yaml_encoding_t::YAML_ANY_ENCODING),
+        _ => checked_setting(word),
+    }
+}
+
 /// The key limit of a word, or the error for words that are no command.
 pub fn checked_limit(word: &str) -> io::Result<u32>
     ensures { IfOk result (λ limit. (1 ≤ limit) × (limit ≤ MOST_KEY_LIMIT)) }
