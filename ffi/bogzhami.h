@@ -32,9 +32,9 @@ extern "C" {
 #endif
 
 /* The version of this header. bogzhami_version returns that of the library. */
-#define BOGZHAMI_VERSION "1.0.0"
+#define BOGZHAMI_VERSION "1.1.0"
 #define BOGZHAMI_VERSION_MAJOR 1
-#define BOGZHAMI_VERSION_MINOR 0
+#define BOGZHAMI_VERSION_MINOR 1
 #define BOGZHAMI_VERSION_PATCH 0
 
 /* A place in the text. Whatever the encoding of the input, the index counts bytes of the text in UTF-8. */

@@ -12,7 +12,7 @@ from typing import Iterator, Union
 from .held import Batch, Held, Readable, Refusal, bytes_of, read_all
 from .tokens import Encoding, Fault, Mark, ScalarStyle, Text, Token, TokenType, fault_of
 
-__version__ = "1.0.0"
+__version__ = "1.1.0"
 
 __all__ = ["Encoding", "Fault", "Mark", "ScalarStyle", "Token", "TokenType", "scan"]
 
