@@ -12,14 +12,29 @@
  *     }
  *     bogzhami_close(&handle);
  *     if (status == BOGZHAMI_FAULT)
- *         tell(&answer, texts);
+ *         tell(input, input_len, &answer, texts);
  *     else if (status != BOGZHAMI_OVER)
  *         fprintf(stderr, "not all tokens were given: %s\n", bogzhami_status_text(status));
  *
  * The loop ends with BOGZHAMI_OVER after the stream end; with BOGZHAMI_FAULT at a fault, which is then in the answer; or with
  * BOGZHAMI_NO_ROOM at a text that is longer than the room for texts. Then tokens are left, and a caller says so, or makes a room
  * of answer.text_len bytes and calls bogzhami_next again. The example list.c does that, and is a whole program. A caller that
- * wants all tokens at once calls bogzhami_scan_all. */
+ * wants all tokens at once calls bogzhami_scan_all.
+ *
+ * This tells a fault: its line and column, from 1, and what is wrong there.
+ *
+ *     static void tell(const uint8_t *input, size_t input_len, const struct bogzhami_answer *answer, const uint8_t *texts) {
+ *         struct bogzhami_mark at = answer->problem_mark;
+ *         uint32_t status = answer->error == BOGZHAMI_MEMORY_ERROR ? BOGZHAMI_NO_MEMORY : BOGZHAMI_DONE;
+ *         if (answer->error == BOGZHAMI_READER_ERROR) // it has an offset, and no mark
+ *             status = bogzhami_place(input, input_len, BOGZHAMI_ANY_ENCODING, answer->problem_offset, &at);
+ *         if (status == BOGZHAMI_DONE)
+ *             fprintf(stderr, "%" PRIu64 ":%" PRIu64 ": %.*s\n", at.line + 1, at.column + 1, (int)answer->problem_len,
+ *                     (const char *)texts + answer->text_len);
+ *         else
+ *             fprintf(stderr, "%s\n", bogzhami_status_text(status));
+ *     }
+ */
 #ifndef BOGZHAMI_H
 #define BOGZHAMI_H
 
@@ -32,9 +47,9 @@ extern "C" {
 #endif
 
 /* The version of this header. bogzhami_version returns that of the library. */
-#define BOGZHAMI_VERSION "1.0.0"
+#define BOGZHAMI_VERSION "1.1.0"
 #define BOGZHAMI_VERSION_MAJOR 1
-#define BOGZHAMI_VERSION_MINOR 0
+#define BOGZHAMI_VERSION_MINOR 1
 #define BOGZHAMI_VERSION_PATCH 0
 
 /* A place in the text. Whatever the encoding of the input, the index counts bytes of the text in UTF-8. */
@@ -75,7 +90,8 @@ struct bogzhami_answer {
     uint32_t error;                    /* a number of bogzhami_error, or 0 if there is no fault */
     int32_t problem_value;             /* reader fault: the octet, unit or code point that is wrong, or -1; otherwise 0 */
     uint64_t problem_offset;           /* reader fault: how many bytes of the input come before what is wrong; otherwise 0 */
-    struct bogzhami_mark problem_mark; /* scanner fault: where the problem is; otherwise zeros */
+    struct bogzhami_mark problem_mark; /* scanner fault: where the problem is; otherwise zeros (bogzhami_place has the mark of an
+                                          offset) */
     struct bogzhami_mark context_mark; /* scanner fault: where what was being read starts; otherwise zeros */
     uint64_t problem_len;              /* what is wrong, in words, from texts[text_len] on; 0 for a memory fault */
     uint64_t context_len;              /* what was being read, in words, right after the problem; 0 if there is none */
@@ -98,7 +114,7 @@ enum bogzhami_status {
     BOGZHAMI_DONE = 0,      /* the call did what it does; after bogzhami_next more may come */
     BOGZHAMI_FAULT = 1,     /* the answer has the fault that comes next, after the tokens of the call */
     BOGZHAMI_WRONG = 2,     /* no such encoding, or a key limit that is not from 1 to 65536 */
-    BOGZHAMI_NO_MEMORY = 3, /* memory was refused in bogzhami_open */
+    BOGZHAMI_NO_MEMORY = 3, /* memory was refused in bogzhami_open or bogzhami_place */
     BOGZHAMI_OVER = 4,      /* the stream end, or the fault, was returned before */
     BOGZHAMI_NO_ROOM = 5,   /* the texts of what comes next are longer than the room for texts */
     BOGZHAMI_NOT_LIVE = 6   /* the handle holds no scanner */
@@ -165,7 +181,8 @@ enum bogzhami_error {
  * - No pointer is null but that of an input of length 0. A pointer whose length is 0 is never followed.
  * - Lengths are those of memory that is there and that was written before, as by calloc; none is above half of the address
  *   space. tokens_len counts records, texts_len counts bytes.
- * - No two of the handle, the input, the rooms and the answer overlap, and no other thread writes to them during the call.
+ * - No two of the handle, the input, the rooms, the answer and the mark overlap, and no other thread writes to them during the
+ *   call.
  * - malloc, realloc and free are of one allocator and align to 16 bytes. No call is made by a signal handler or by the forked
  *   child of a process with threads.
  * Calls with different handles share nothing, so several threads may call at once. */
@@ -217,6 +234,30 @@ uint32_t bogzhami_close(struct bogzhami_handle *handle);
 uint32_t bogzhami_scan_all(const uint8_t *input, size_t input_len, uint32_t encoding, uint32_t key_limit,
                            struct bogzhami_token *tokens, size_t tokens_len, uint8_t *texts, size_t texts_len,
                            struct bogzhami_answer *answer);
+
+/* The place of an offset of the input: *mark is the mark after the characters that the input spells before the offset. It has the
+ * line and the column of a reader's fault, whose problem_offset is given. The offset counts bytes of the input from 0, with its
+ * byte order mark. The encoding is that with which the input was scanned.
+ *
+ * A character that the offset cuts is not counted. If the offset is past bytes that spell no character, or past the end, the mark
+ * is where these bytes or the end are. The time grows with the offset. UTF-8 takes no memory.
+ *
+ * Returns BOGZHAMI_DONE; BOGZHAMI_WRONG for a wrong encoding; BOGZHAMI_NO_MEMORY if memory was refused, which only UTF-16 takes.
+ * With the last two *mark is zeros. */
+uint32_t bogzhami_place(const uint8_t *input, size_t input_len, uint32_t encoding, uint64_t offset, struct bogzhami_mark *mark);
+
+/* A token's first text, in the room for texts: a handle, a name or a value. *len is how many bytes it has, and 0 if the token has
+ * none. No 0 follows it. */
+static inline const char *bogzhami_text(const struct bogzhami_token *token, const uint8_t *texts, size_t *len) {
+    *len = (size_t)token->first_len;
+    return (const char *)texts + token->text_at;
+}
+
+/* Its second text: a prefix or a suffix. */
+static inline const char *bogzhami_second_text(const struct bogzhami_token *token, const uint8_t *texts, size_t *len) {
+    *len = (size_t)token->second_len;
+    return (const char *)texts + token->text_at + token->first_len;
+}
 
 /* The version of the library, as BOGZHAMI_VERSION has it. This text, and those of the calls below, ends with a 0, stays where
  * it is, and is not freed. */

@@ -3,12 +3,14 @@
 
 All inputs of vectors/scan.txt.gz are scanned at once through the shared library: with no room, with exactly the room that is
 needed and with about half of it; the tokens and the fault are the expected ones, each record says where the input has the
-token's text, and nothing else in a room has changed. Wrong settings and limits touch nothing but the answer. The records have
-the same sizes and places in C, in Rust and in the crate, and the header's numbers are the crate's. The examples list.c, list.cc
-and list.rs list what is expected, and list.c frees all that it took; all three say what they are, and what is wrong with their
-words, their input and their output. The examples in ffi/README.md, the header and the manual page are compiled as they stand there, and give
-the expected tokens, also of a text of 50 MB (lib/pages.py). The library exports the names of the header, with the version that
-VERSION has, and names their numbers. Each request for memory of list.c is refused in turn.
+token's text, and nothing else in a room has changed. Wrong settings and limits touch nothing but the answer. The places of
+offsets are those that Python's codecs find (lib/offsets.py). A fault of the reader comes in the place of the step near it. The
+records have the same sizes and places in C, in Rust and in the crate, and the header's numbers are the crate's. The examples
+list.c, list.cc and list.rs list what is expected, and list.c frees all that it took; all three say what they are, and what is
+wrong with their words, their input and their output. The examples in ffi/README.md, the header and the manual page are
+compiled as they stand there, and give the expected tokens, also of a text of 50 MB (lib/pages.py). The library exports the
+names of the header, with the version that VERSION has, and names their numbers. Each request for memory of list.c is refused
+in turn.
 
 A scanner that is held gives what the scan at once gives, whatever the batches, rooms, peeks, turns, threads and refused
 requests are, wherever it is closed, and whichever other scanners of its input are closed before (held.c); valgrind and the
@@ -34,6 +36,7 @@ sys.dont_write_bytecode = True
 from held import FFI, SETTINGS, VALGRIND, Handle, build_held, build_rust, inputs_of_tests, try_long, try_reach
 from held import try_rust, try_sanitized, try_tests, try_valgrind
 from library import VERSION, build_library
+from offsets import try_places
 from pages import try_pages
 from worked import MEMORY, build_refuser, run
 from wrong_uses import RUST, try_name_calls, try_wrong_uses
@@ -47,6 +50,9 @@ NO_PLACE = 2**64 - 1  # BOGZHAMI_NOWHERE
 SIGNS = {("SCALAR", "plain"): 0, ("SCALAR", "single"): 1, ("SCALAR", "double"): 1, ("ALIAS", "any"): 1, ("ANCHOR", "any"): 1}
 FILL = 0xA5
 SPARE = 3
+# The example of the READMEs: no token of the first line is given, since the fault is near.
+NEAR = b"ab: cd\nx: \xffb"
+NEAR_WANTED = ["STREAM-START 0:0:0 0:0:0 UTF8", "FAULT reader 10 255 invalid leading UTF-8 octet"]
 SMALL = [b"a: 1", b"- [a, b]\n- {c: d}\n", b"? |\n  text\n: 'x'\n", b"a: b: c", b"\xff\xfea\0:\0 \0b\0", b"a\xff"]
 
 
@@ -304,6 +310,15 @@ def wrong_calls():
     return len(tried) + 3, bad
 
 
+def try_near_fault():
+    """Whether a fault of the reader comes in the place of the step near it, as the READMEs say, and nothing else does."""
+    done, names = Call(load(), NEAR, 0, 1024, 9, 99), type_names()
+    texts = bytes(done.texts)
+    found = [token_line(t, texts, names) for t in done.tokens[: done.answer.token_count]] + [fault_line(done.answer, texts)]
+    print(f"ffi: a fault of the reader and the step near it, {int(found != NEAR_WANTED)} wrong {found if found != NEAR_WANTED else ''}")
+    return found == NEAR_WANTED
+
+
 def lists_wrong(program, row):
     words, data, wanted = row
     done = subprocess.run([program, *words], input=data, capture_output=True, timeout=60)
@@ -359,7 +374,7 @@ def try_names():
     told = subprocess.run(words, check=True, capture_output=True, text=True).stdout
     found = {line.split(" ")[-1] for line in told.splitlines()}
     print(f"ffi: {len(found) - 1} names exported, {len(found ^ wanted)} not those of the header {sorted(found ^ wanted) or ''}")
-    return found == wanted and len(names) == 13
+    return found == wanted and len(names) == 14
 
 
 def try_version():
@@ -451,6 +466,8 @@ def main():
             build_rust(os.path.join(FFI, "list.rs"), programs[-1])
         good = [
             try_library(every),
+            try_near_fault(),
+            try_places(every),
             try_names(),
             try_name_calls(),
             try_version(),

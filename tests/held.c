@@ -687,14 +687,61 @@ static bool tell_refusals(void) {
     return is_each_seen;
 }
 
-/* Batches of every size, and closing at every place, in rooms that a checker of memory sees the ends of. */
-
+/* A copy in a block of its own, of which a checker of memory sees the ends. */
 static void *copy_of(const void *bytes, size_t len) {
     void *block = malloc(len);
     if (len)
         memcpy(need(block), bytes, len);
     return block;
 }
+
+/* Places of offsets. */
+
+/* How many requests for memory were refused in calls for a place. */
+static long offsets_refused;
+
+static uint32_t call_place(const struct input *i, uint64_t offset, struct bogzhami_mark *mark) {
+    memset(mark, FILL, sizeof *mark);
+    return bogzhami_place(i->bytes, i->len, i->encoding, offset, mark);
+}
+
+/* Refuses each request of a call in turn: then the mark is zeros. UTF-8 makes none, and no call keeps memory. */
+static void try_offset(const struct input *i, uint64_t offset) {
+    static const struct bogzhami_mark zeros;
+    struct bogzhami_mark mark;
+    long blocks_before = blocks;
+    refuse(0, 0);
+    check(call_place(i, offset, &mark) == BOGZHAMI_DONE, "a place");
+    long made = requests;
+    check(made == 0 || encoding_of(i) != BOGZHAMI_UTF8_ENCODING, "a place in UTF-8 takes memory");
+    for (long number = 1; number <= made; number++) {
+        refuse(number, number);
+        check(call_place(i, offset, &mark) == BOGZHAMI_NO_MEMORY, "a place without memory");
+        check(!memcmp(&mark, &zeros, sizeof mark), "the mark of a place without memory");
+        offsets_refused++;
+    }
+    refuse(0, 0);
+    check(blocks == blocks_before, "a place keeps memory");
+}
+
+/* Some hundred offsets of an input, and some past its end. */
+static void try_offsets(const struct input *i, const struct whole *w) {
+    struct input alone = *i;
+    alone.bytes = copy_of(i->bytes, i->len);
+    for (uint64_t offset = 0; offset < i->len + 2; offset += 1 + i->len / 100)
+        try_offset(&alone, offset);
+    try_offset(&alone, w->answer.problem_offset);
+    try_offset(&alone, i->len);
+    try_offset(&alone, UINT64_MAX);
+    free(alone.bytes);
+}
+
+static bool tell_offsets(void) {
+    printf(", %ld requests refused", offsets_refused);
+    return offsets_refused;
+}
+
+/* Batches of every size, and closing at every place, in rooms that a checker of memory sees the ends of. */
 
 /* Calls bogzhami_next, or bogzhami_peek for no tokens, with rooms in blocks of their own, of just this length, and
  * checks everything. */
@@ -1000,6 +1047,7 @@ static const struct {
              {"nothing", try_nothing, NULL},
              {"refused", try_refused, tell_refused},
              {"refusals", try_refusals, tell_refusals},
+             {"offsets", try_offsets, tell_offsets},
              {"sizes", try_sizes, NULL},
              {"closes", try_closes, NULL},
              {"pairs", try_pairs, NULL},

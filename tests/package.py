@@ -274,8 +274,8 @@ def text_of(page):
 
 
 def declarations(header):
-    """The calls of the header, each with its declaration, without blanks and line breaks."""
-    found = re.findall(r"^(\w[\w *]*(bogzhami_\w+)\([^;]*;)", header, re.M)
+    """The calls of the header, each with its declaration, without blanks and line breaks. Its own functions are none."""
+    found = re.findall(r"^(?!static)(\w[\w *]*(bogzhami_\w+)\([^;]*;)", header, re.M)
     return {name: re.sub(r"\s", "", declaration) for declaration, name in found}
 
 

@@ -12,7 +12,7 @@ from typing import Iterator, SupportsIndex
 from .held import Batch, Held, Input, Refusal, bytes_of, content_of, limit_of
 from .tokens import Encoding, Fault, Mark, ScalarStyle, Text, Token, TokenType, encoding_of, fault_of
 
-__version__ = "1.0.0"
+__version__ = "1.1.0"
 
 __all__ = ["Encoding", "Fault", "Mark", "ScalarStyle", "Token", "TokenType", "scan"]
 

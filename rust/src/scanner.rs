@@ -81,6 +81,10 @@ const FAULT: u32 = 1;
 const WRONG: u32 = 2;
 const NO_ROOM: u32 = 5;
 
+// `enum bogzhami_error` of bogzhami.h.
+const READER_ERROR: u32 = 2;
+const SCANNER_ERROR: u32 = 3;
+
 extern "C" {
     fn bogzhami_open(handle: *mut Handle, input: *const u8, input_len: usize, encoding: u32, key_limit: u32) -> u32;
     fn bogzhami_next(
@@ -96,6 +100,7 @@ extern "C" {
     fn bogzhami_reach(handle: *mut Handle, mark: *mut Mark) -> u32;
     fn bogzhami_encoding(handle: *mut Handle) -> u32;
     fn bogzhami_close(handle: *mut Handle) -> u32;
+    fn bogzhami_place(input: *const u8, input_len: usize, encoding: u32, offset: u64, mark: *mut Mark) -> u32;
     fn bogzhami_version() -> *const c_char;
 }
 
@@ -130,6 +135,8 @@ pub enum Style {
 
 /// A text of a token: bytes that are UTF-8, except what a tag or a `%TAG` directive writes by `%`.
 ///
+/// It is displayed as text, with U+FFFD in the place of bytes that are no UTF-8.
+///
 /// A [`Scanner`] as an iterator borrows it from the input if it stands there as it is, and otherwise copies it.
 #[derive(Clone, PartialEq, Eq, Hash)]
 pub struct Text<'a>(pub Cow<'a, [u8]>);
@@ -151,6 +158,12 @@ impl Deref for Text<'_> {
 
     fn deref(&self) -> &[u8] {
         &self.0
+    }
+}
+
+impl fmt::Display for Text<'_> {
+    fn fmt(&self, f: &mut fmt::Formatter<'_>) -> fmt::Result {
+        String::from_utf8_lossy(&self.0).fmt(f)
     }
 }
 
@@ -242,9 +255,10 @@ impl Token<'_> {
 pub enum Fault {
     /// Memory was refused: the tokens are a beginning of all tokens.
     Memory,
-    /// The bytes are no text. The offset counts bytes of the input; the value is the octet, unit or code point that is
-    /// wrong, or -1.
-    Reader { problem: String, offset: u64, value: i32 },
+    /// The bytes are no text. The offset counts bytes of the input, and the mark is that of the character they should
+    /// spell; the value is the octet, unit or code point that is wrong, or -1.
+    #[non_exhaustive]
+    Reader { problem: String, offset: u64, value: i32, mark: Mark },
     /// No token can be read there. The context is what was being read, from its mark on.
     Scanner { problem: String, mark: Mark, context: Option<String>, context_mark: Mark },
 }
@@ -253,7 +267,9 @@ impl fmt::Display for Fault {
     fn fmt(&self, f: &mut fmt::Formatter<'_>) -> fmt::Result {
         match self {
             Fault::Memory => write!(f, "out of memory"),
-            Fault::Reader { problem, offset, .. } => write!(f, "{problem} at byte {offset}"),
+            Fault::Reader { problem, offset, mark, .. } => {
+                write!(f, "{problem} at line {} column {} (offset {offset})", mark.line + 1, mark.column + 1)
+            }
             Fault::Scanner { problem, mark, context, .. } => {
                 if let Some(context) = context {
                     write!(f, "{context}: ")?;
@@ -309,6 +325,8 @@ const FIRST_TEXTS: usize = 1 << 14;
 /// copies of other texts.
 pub struct Scanner<'a> {
     input: &'a [u8],
+    /// The encoding that was set.
+    encoding: Encoding,
     handle: Handle,
     /// The rooms, which each batch uses again.
     records: Vec<Record>,
@@ -330,8 +348,9 @@ impl<'a> Scanner<'a> {
     pub fn with_settings(input: &'a [u8], settings: Settings) -> Result<Scanner<'a>, WrongKeyLimit> {
         let records = vec![Record::default(); settings.batch_len.max(1)];
         let (handle, texts) = (Handle::default(), vec![0; FIRST_TEXTS]);
-        let mut scanner = Scanner { input, handle, records, texts, given: 0, count: 0, fault: None };
-        match scanner.open(settings.encoding, settings.key_limit) {
+        let encoding = settings.encoding;
+        let mut scanner = Scanner { input, encoding, handle, records, texts, given: 0, count: 0, fault: None };
+        match scanner.open(settings.key_limit) {
             DONE => (),
             WRONG => return Err(WrongKeyLimit(settings.key_limit)),
             _ => scanner.fault = Some(Fault::Memory),
@@ -401,15 +420,28 @@ impl<'a> Scanner<'a> {
             _ => (),
         }
         if status == FAULT {
-            self.fault = Some(fault_of(&answer, &self.texts));
+            let place = self.place(&answer);
+            self.fault = Some(place.map_or(Fault::Memory, |mark| fault_of(&answer, &self.texts, mark)));
         }
     }
 
     /// Calls `bogzhami_open`, and returns its status.
-    fn open(&mut self, encoding: Encoding, key_limit: u32) -> u32 {
+    fn open(&mut self, key_limit: u32) -> u32 {
         let (input, input_len) = (self.input.as_ptr(), self.input.len());
         // SAFETY: pointer and length are those of one live slice. The handle was made by `Handle::default`.
-        unsafe { bogzhami_open(&mut self.handle, input, input_len, encoding as u32, key_limit) }
+        unsafe { bogzhami_open(&mut self.handle, input, input_len, self.encoding as u32, key_limit) }
+    }
+
+    /// The mark of the problem of a fault, or `None` if memory is refused. The reader tells an offset in its place.
+    fn place(&self, answer: &Answer) -> Option<Mark> {
+        let mut mark = answer.problem_mark;
+        let (input, input_len, encoding) = (self.input.as_ptr(), self.input.len(), self.encoding as u32);
+        if answer.error != READER_ERROR {
+            return Some(mark);
+        }
+        // SAFETY: pointer and length are those of one live slice. `mark` is a value of its own.
+        let status = unsafe { bogzhami_place(input, input_len, encoding, answer.problem_offset, &mut mark) };
+        (status == DONE).then_some(mark)
     }
 
     /// Calls `bogzhami_next`, and returns its status.
@@ -508,15 +540,17 @@ fn part(texts: &[u8], at: u64, len: u64) -> &[u8] {
     &texts[at as usize..][..len as usize]
 }
 
-fn fault_of(answer: &Answer, texts: &[u8]) -> Fault {
+fn fault_of(answer: &Answer, texts: &[u8], mark: Mark) -> Fault {
     let word = |at, len| String::from_utf8_lossy(part(texts, at, len)).into_owned();
     let problem = word(answer.text_len, answer.problem_len);
     let context = word(answer.text_len + answer.problem_len, answer.context_len);
     match answer.error {
-        2 => Fault::Reader { problem, offset: answer.problem_offset, value: answer.problem_value },
-        3 => Fault::Scanner {
+        READER_ERROR => {
+            Fault::Reader { problem, offset: answer.problem_offset, value: answer.problem_value, mark }
+        }
+        SCANNER_ERROR => Fault::Scanner {
             problem,
-            mark: answer.problem_mark,
+            mark,
             context: (!context.is_empty()).then_some(context),
             context_mark: answer.context_mark,
         },

@@ -4,7 +4,7 @@
 mod listing;
 
 use bogzhami as scanner; // by this name listing.rs calls the crate
-use scanner::{Data, Fault, Scanner, Text, Token};
+use scanner::{Data, Encoding, Fault, Scanner, Settings, Text, Token};
 use std::borrow::Cow;
 use std::error::Error;
 
@@ -92,6 +92,46 @@ fn faults_are_errors_that_may_be_sent() {
     let fault = Scanner::new(b"'a").find_map(Result::err).expect("the quote is open");
     let told = std::thread::spawn(move || boxed(fault).to_string()).join().expect("the thread ends");
     assert_eq!(told, "while scanning a quoted scalar: found unexpected end of stream at line 1 column 3");
+}
+
+/// The words of an input's fault.
+fn told(input: &[u8]) -> String {
+    Scanner::new(input).find_map(Result::err).expect("the input has a fault").to_string()
+}
+
+#[test]
+fn faults_of_the_reader_have_a_line_and_a_column() {
+    assert_eq!(told(b"ab: cd\nx: \xFFb"), "invalid leading UTF-8 octet at line 2 column 4 (offset 10)");
+    assert_eq!(told(b"a\r\n\xC3\xA9\x01"), "control characters are not allowed at line 2 column 2 (offset 5)");
+    let after_mark = b"\xFF\xFEa\0\n\0\0\xDC";
+    assert_eq!(told(after_mark), "unexpected low surrogate area at line 2 column 1 (offset 6)", "UTF-16");
+}
+
+/// With an encoding that is set, a byte order mark is a character.
+#[test]
+fn faults_of_the_reader_count_a_mark_that_decides_nothing() {
+    let input = b"\xEF\xBB\xBFa\x01";
+    let settings = Settings { encoding: Encoding::Utf8, ..Settings::default() };
+    let columns = [settings, Settings::default()].map(|settings| {
+        let mut scanner = Scanner::with_settings(input, settings).expect("the key limit is right");
+        match scanner.find_map(Result::err) {
+            Some(Fault::Reader { mark, .. }) => mark.column,
+            other => panic!("{other:?}"),
+        }
+    });
+    assert_eq!(columns, [2, 1]);
+}
+
+#[test]
+fn texts_are_displayed() {
+    let texts: Vec<String> = Scanner::new(b"!a%ED%A0%80b \xC3\xA9")
+        .filter_map(|item| match item.expect("it has no fault").data {
+            Data::Tag { suffix, .. } => Some(format!("{suffix}|{suffix:>6}|{:?}", suffix.as_str())),
+            Data::Scalar { value, .. } => Some(format!("{value}|{value:>4}|{:?}", value.as_str())),
+            _ => None,
+        })
+        .collect();
+    assert_eq!(texts, ["a\u{FFFD}\u{FFFD}\u{FFFD}b| a\u{FFFD}\u{FFFD}\u{FFFD}b|None", "\u{E9}|   \u{E9}|Some(\"\u{E9}\")"]);
 }
 
 #[test]

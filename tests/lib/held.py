@@ -22,7 +22,7 @@ TESTS = {"batches": 1, "rooms": 1, "prefixes": 1, "peeks": 1, "turns": 1, "threa
 TESTS.update({"sizes": 5, "closes": 5, "pairs": 5})
 # Of how many of its inputs a test gets one under valgrind. With the address sanitizer it gets ten times as many.
 CHECKED = {"prefixes": 400, "peeks": 400, "turns": 400, "threads": 40, "statuses": 20, "refused": 20}
-CHECKED.update({"sizes": 40, "closes": 40, "pairs": 80, "refusals": 5, "needs": 40})
+CHECKED.update({"sizes": 40, "closes": 40, "pairs": 80, "refusals": 5, "offsets": 5, "needs": 40})
 
 # The kinds of inputs whose requests for memory are refused one by one: each has an expected line of which this is true.
 KINDS = {
@@ -78,6 +78,7 @@ def inputs_of_tests(rows, small):
     inputs["nothing"] = [row for row in rows if not row[1]]
     inputs["refusals"] = [row for kind in KINDS.values() for row in of_kind(rows, kind)]
     inputs["refusals"] += [(["any"], data, None) for data in small]
+    inputs["offsets"] = inputs["refusals"]
     inputs["needs"] = [*long_texts(), *rows[::10]]
     return inputs
 

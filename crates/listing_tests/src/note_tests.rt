@@ -17,7 +17,7 @@ const ASKED: [(&str, &str, &str); 3] = [
         "usage: yamltok COMMAND ENC [WORD] < FILE\n\n  scan ENC",
         "is refused.\n",
     ),
-    ("--version", "yamltok (Bogzhami) ", "1.0.0\n"),
+    ("--version", "yamltok (Bogzhami) ", "1.1.0\n"),
 ];
 
 /// Words that ask for none.

@@ -7,3 +7,4 @@ pub mod Looks
 pub mod BatchEnds
 pub mod SameEnds
 pub mod NothingHeld
+pub mod EndMark

@@ -1,6 +1,7 @@
 pub mod Answer
 pub mod Laws
 pub mod Record
+pub mod Place
 pub mod Spelled
 pub mod Room
 pub mod Status

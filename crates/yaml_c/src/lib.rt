@@ -12,6 +12,7 @@ mod handle;
 mod held;
 pub mod laws;
 mod numbers;
+mod place;
 mod record;
 mod room;
 mod sink;
@@ -31,6 +32,7 @@ pub use calls::{
     bogzhami_close, bogzhami_encoding, bogzhami_next, bogzhami_open, bogzhami_peek, bogzhami_reach,
 };
 pub use handle::bogzhami_handle;
+pub use place::bogzhami_place;
 pub use record::{bogzhami_mark, bogzhami_token};
 use std::alloc::Global;
 use yaml_scan::{yaml_encoding_t, yaml_scan_to};

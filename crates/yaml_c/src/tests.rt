@@ -325,6 +325,75 @@ fn values_in_other_encodings(rt: HostRuntime) -> Result<(), Fail> {
     Ok(())
 }
 
+/// The status of a call for the place of an offset, and the index, the line and the column of that.
+fn place_of_offset(
+    alloc: Global,
+    input: &[u8],
+    setting: u32,
+    offset: u64,
+) -> (u32, (u64, u64, u64)) {
+    let mut mark = NO_MARK;
+    let status = bogzhami_place(alloc, input, setting, offset, &mut mark);
+    (status, (mark.index, mark.line, mark.column))
+}
+
+/// An input, the number of its encoding and an offset, and the place of that.
+type offset_row_t<'a> = (&'a [u8], u32, u64, (u64, u64, u64));
+
+/// Asserts which places offsets have.
+fn expect_offsets(rt: &(impl Abort + AllocGlobal), rows: &[offset_row_t]) {
+    for (input, setting, offset, place) in rows {
+        let told = place_of_offset(rt.alloc(), input, *setting, *offset);
+        assert_eq!(rt; told, (0, *place), "{input:?} {offset}");
+    }
+}
+
+/// Whole characters count, and CR LF is one break. An offset past the end has the place of the end.
+#[test]
+fn places_of_offsets(rt: HostRuntime) -> Result<(), Fail> {
+    const TEXT: &[u8] = b"a\r\n\xC3\xA9b";
+    const ROWS: [offset_row_t; 8] = [
+        (TEXT, 1, 0, (0, 0, 0)),
+        (TEXT, 1, 1, (1, 0, 1)),
+        (TEXT, 1, 2, (2, 1, 0)),
+        (TEXT, 1, 3, (3, 1, 0)),
+        (TEXT, 1, 4, (3, 1, 0)),
+        (TEXT, 1, 5, (5, 1, 1)),
+        (TEXT, 1, 6, (6, 1, 2)),
+        (TEXT, 1, u64::MAX, (6, 1, 2)),
+    ];
+    expect_offsets(&rt, &ROWS);
+    Ok(())
+}
+
+/// A byte order mark counts for nothing if it decides the encoding, and what is wrong ends the text.
+#[test]
+fn places_after_marks_and_faults(rt: HostRuntime) -> Result<(), Fail> {
+    const ROWS: [offset_row_t; 8] = [
+        (b"\xEF\xBB\xBFa", 0, 2, (0, 0, 0)),
+        (b"\xEF\xBB\xBFa", 0, 4, (1, 0, 1)),
+        (b"\xEF\xBB\xBFa", 1, 4, (4, 0, 2)),
+        (b"\xFF\xFEa\0\n\0b\0", 0, 1, (0, 0, 0)),
+        (b"\xFF\xFEa\0\n\0b\0", 0, 7, (2, 1, 0)),
+        (b"\0a\0\n\0b", 3, 6, (3, 1, 1)),
+        (b"ab: cd\nx: \xFFb", 0, 10, (10, 1, 3)),
+        (b"ab: cd\nx: \xFFb", 0, 12, (10, 1, 3)),
+    ];
+    expect_offsets(&rt, &ROWS);
+    Ok(())
+}
+
+/// A wrong encoding has no place: the mark is zeros.
+#[test]
+fn places_in_wrong_encodings(rt: HostRuntime) -> Result<(), Fail> {
+    assert_eq!(rt; place_of_offset(rt.alloc(), b"a", 4, 1), (2, (0, 0, 0)));
+    assert_eq!(rt;
+        place_of_offset(rt.alloc(), b"a", u32::MAX, 1),
+        (2, (0, 0, 0))
+    );
+    Ok(())
+}
+
 /// A handle that holds a scanner of an input, unless memory was refused.
 fn opened(rt: HostRuntime, input: &[u8]) -> bogzhami_handle
     ensures { result.live ≡ true → (s : Scan) × (s.input ≡ input.now) × IsAt s result.held.value }

@@ -28,7 +28,7 @@ last_lines =
 abbrev pub note_text : yaml_note_t → List ℕ
 note_text Help =
     codes "usage: yamltok COMMAND ENC [WORD] < FILE\n\n" ++ command_lines ++ codes "\n" ++ last_lines
-note_text Version = codes "yamltok (Bogzhami) 1.0.0\n"
+note_text Version = codes "yamltok (Bogzhami) 1.1.0\n"
 
 -- A beginning of the note, which is not all of it, was written, and nothing else.
 pub record WritesPartOf (note : yaml_note_t) (sink sink_after : Option (List ℕ)) : Type 0 where

@@ -59,7 +59,7 @@ pub fn note_text(note: yaml_note_t) -> &'static str
              ENC is any, utf8, utf16le or utf16be. The exit status is 0; 1 if a line is a\n\
              fault; 2 for wrong words; 3 if a read or a write fails or memory is refused.\n"
         }
-        yaml_note_t::Version => "yamltok (Bogzhami) 1.0.0\n",
+        yaml_note_t::Version => "yamltok (Bogzhami) 1.1.0\n",
     }
 }
 

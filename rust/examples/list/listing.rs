@@ -61,7 +61,7 @@ fn line(token: Token) -> String {
 fn fault_line(fault: &Fault) -> String {
     match fault {
         Fault::Memory => "FAULT memory".into(),
-        Fault::Reader { problem, offset, value } => format!("FAULT reader {offset} {value} {problem}"),
+        Fault::Reader { problem, offset, value, .. } => format!("FAULT reader {offset} {value} {problem}"),
         Fault::Scanner { problem, mark: at, context, context_mark } => {
             let context = context.as_deref().unwrap_or("-");
             format!("FAULT scanner {} {} {context}; {problem}", mark(*context_mark), mark(*at))
