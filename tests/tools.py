@@ -8,8 +8,8 @@ there or may not be read, a folder) is told with the reason, as is a full disk. 
 whether or not the tool gets the signal. All of these end with 3, in each tool.
 
 The shell scripts run, try, test, package, ffi/build and uses/libyaml/build, with no kit on the path, answer in the same way
-before anything is proved. ./run and ./try refuse exactly the words that the program refuses, and say that an input that is
-closed or a folder can not be read.
+before anything is proved. ./run and ./try refuse exactly the words that the program refuses, with the same words but for the
+hint at a file of that name, and say that an input that is closed or a folder can not be read.
 
 json lists the worked rows, every fifth input of vectors/scan.txt.gz, and inputs with characters that have to be escaped and
 with tags that are not UTF-8. Each line is an object with the members that docs/COMMANDS.md names, in that order, and stands for
@@ -266,15 +266,19 @@ def try_scripts():
 
 
 def try_same_words(program):
-    """./run and ./try refuse the words that the program refuses, and no others."""
+    """./run and ./try refuse the words that the program refuses, and no others, and say the same of them. What the program says of
+    words that are no text, and of words after --help, ./run does not come to say."""
     code = '. "$1/ffi/words.sh"; usage() { echo usage; }; script=run; shift; check_command "$@"'
     every = [words.split(b" ") if words else [] for words in (*WRONG, *(words.encode() for words in TAKEN))]
     wrong = []
     for words in every:
-        refused = subprocess.run(["bash", "-c", code, "bash", TOP, *words], capture_output=True).returncode
-        status = subprocess.run([program, *words], input=b"a", capture_output=True).returncode
-        if (refused, status) not in ((2, 2), (0, 0), (0, 1)):
-            wrong.append((words, refused, status))
+        refused = subprocess.run(["bash", "-c", code, "bash", TOP, *words], capture_output=True)
+        done = subprocess.run([program, *words], input=b"a", capture_output=True)
+        said, told = refused.stderr.splitlines(), done.stderr.splitlines()
+        has_own = b"\xff" in b"".join(words) or words[:1] in ([b"--help"], [b"-h"])
+        same = has_own or not said or said[0].removeprefix(b"run: ") == told[1].removeprefix(b"yamltok: ")
+        if (refused.returncode, done.returncode) not in ((2, 2), (0, 0), (0, 1)) or not same:
+            wrong.append((words, refused.returncode, done.returncode, said[:1], told[1:2]))
     return say("words of ./run that the program takes, or refuses", len(every), wrong)
 
 
