@@ -276,7 +276,7 @@ def try_same_words(program):
         done = subprocess.run([program, *words], input=b"a", capture_output=True)
         said, told = refused.stderr.splitlines(), done.stderr.splitlines()
         has_own = b"\xff" in b"".join(words) or words[:1] in ([b"--help"], [b"-h"])
-        same = has_own or not said or said[0].removeprefix(b"run: ") == told[1].removeprefix(b"yamltok: ")
+        same = has_own or not said or [b"yamltok: " + said[0].removeprefix(b"run: ")] == told[1:2]
         if (refused.returncode, done.returncode) not in ((2, 2), (0, 0), (0, 1)) or not same:
             wrong.append((words, refused.returncode, done.returncode, said[:1], told[1:2]))
     return say("words of ./run that the program takes, or refuses", len(every), wrong)
