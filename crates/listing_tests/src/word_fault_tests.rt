@@ -2,7 +2,7 @@
 use crate::tests::words_of;
 use std::process::Abort;
 use std::test::Fail;
-use yaml_listing::{word_fault, yaml_word_fault_t};
+use yaml_listing::{fault_of_words, yaml_word_fault_t};
 
 /// Wrong words, and what is said of them.
 const WRONG: [(&str, &str); 22] = [
@@ -61,7 +61,7 @@ const RIGHT: [&str; 6] = [
 /// Asserts that so much is said of words.
 fn expect_said(rt: &(impl Abort + AllocGlobal), words: &str, said: &str) -> Result<(), Fail> {
     let asked = words_of(rt.alloc(), words)?;
-    let text = match word_fault(&asked) {
+    let text = match fault_of_words(&asked) {
         Some(fault) => fault.to_string(rt.alloc())?,
         None => return Err("nothing is said".into()),
     };
@@ -74,7 +74,7 @@ fn faults_of_words(rt: HostRuntime) -> Result<(), Fail> {
     for (words, said) in &WRONG {
         expect_said(&rt, words, said)?;
     }
-    assert_eq!(rt; word_fault(&[]), Some(yaml_word_fault_t::NoCommand));
+    assert_eq!(rt; fault_of_words(&[]), Some(yaml_word_fault_t::NoCommand));
     Ok(())
 }
 
@@ -83,7 +83,7 @@ fn faults_of_words(rt: HostRuntime) -> Result<(), Fail> {
 fn words_without_a_fault(rt: HostRuntime) -> Result<(), Fail> {
     for words in &RIGHT {
         let asked = words_of(rt.alloc(), words)?;
-        assert!(rt; word_fault(&asked).is_none(), "{words}");
+        assert!(rt; fault_of_words(&asked).is_none(), "{words}");
     }
     Ok(())
 }

@@ -1,5 +1,5 @@
 -- What is wrong with words that spell no command.
-use Rattle.std.specs.Prelude.{ℕ, ◌≡◌, ◌≢◌, ◌⊎◌, ⊥, true, false, List, [], ◌∷◌, length, take, drop, codes}
+use Rattle.std.specs.Prelude.{ℕ, ◌≡◌, ◌⊎◌, true, false, List, [], ◌∷◌, length, take, drop, codes}
 use Rattle.std.specs.Fmt.{decimal}
 use Rattle.yaml_text.specs.declared.types.yaml_encoding_t.{yaml_encoding_t}
 use Rattle.yaml_listing.specs.Args.{setting_word, is_limit, are_letters, AreWordsOf}

@@ -19,4 +19,4 @@ pub use devices::{yaml_broken_t, yaml_sink_of_t, yaml_sink_t, yaml_source_of_t, 
 pub use listing::{list_fault, list_peek, list_token};
 pub use note::{note_text, parse_note, tell, yaml_note_t};
 pub use outcome::{tool_fault_t, yaml_status};
-pub use word_fault::{word_fault, yaml_word_fault_t};
+pub use word_fault::{fault_of_words, yaml_word_fault_t};

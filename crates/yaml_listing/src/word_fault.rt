@@ -98,15 +98,18 @@ fn fault_of_three<'a>(
         return Some(fault);
     }
     match command {
-        "scan" if parse_limit(word).is_none() => Some(yaml_word_fault_t::Limit(word)),
-        "calls" if !are_letters(word) => Some(yaml_word_fault_t::Calls(word)),
-        "decode" => Some(yaml_word_fault_t::Extra(word)),
-        _ => None,
+        "scan" => match parse_limit(word) {
+            Some(_) => None,
+            None => Some(yaml_word_fault_t::Limit(word)),
+        },
+        "calls" if are_letters(word) => None,
+        "calls" => Some(yaml_word_fault_t::Calls(word)),
+        _ => Some(yaml_word_fault_t::Extra(word)),
     }
 }
 
 /// The fault that these words have, without the program's name, if they spell no command.
-pub fn word_fault(words: &[String]) -> Option<yaml_word_fault_t>
+pub fn fault_of_words(words: &[String]) -> Option<yaml_word_fault_t>
     ensures some { IfSome result (λ fault. HasFault (map string_bytes words.now) fault) }
     ensures none { IfNone result (Spells (map string_bytes words.now)) }
 {

@@ -22,8 +22,8 @@ use std::env::Env;
 use std::io::ErrorKind;
 use std::process::ExitCode;
 use yaml_listing::{
-    parse_args, parse_note, run, tell, tool_fault_t, word_fault, yaml_sink_of_t, yaml_source_of_t,
-    yaml_status,
+    fault_of_words, parse_args, parse_note, run, tell, tool_fault_t, yaml_sink_of_t,
+    yaml_source_of_t, yaml_status,
 };
 
 /// The words of the command line, without the program's name.
@@ -50,7 +50,7 @@ fn outcome_of(rt: &HostRuntime, words: &[String]) -> Result<bool, tool_fault_t> 
 fn explain(rt: &HostRuntime, words: &Result<Vec<String>, tool_fault_t>) {
     match words {
         Ok(words) => {
-            if let Some(fault) = word_fault(words) {
+            if let Some(fault) = fault_of_words(words) {
                 let _ = eprintln!(rt; "yamltok: {fault}");
             }
         }
