@@ -19,7 +19,8 @@ for this. Each of these differences is recognised exactly, and has to occur:
   more, or that fail at a call.
 
 A parser that is given up half-way has given a beginning of what it would have given. PyYAML's C loader is run over
-either library: the objects are the same, and so are the words of the errors, but for the same differences. Of a few
+either library: the objects are the same, and so are the words of the errors, but for the same differences. A text that is nested
+30,000 deep is scanned by it in less than two seconds, for which libyaml needs at least ten times as long. Of a few
 small inputs each request for memory is refused in turn; a string needs fewer than an input that is read, since it is not
 copied. Valgrind looks at a hundred inputs and some longer ones, in eleven ways each: scanned to their end, read in pieces, with
 reads that fail, and given up half-way. What needs a C compiler, libyaml-dev, a PyYAML that stands on libyaml's shared library, or
@@ -64,6 +65,8 @@ BATCH = 256
 TEXT_ROOM = 16384
 # the words of the fault in `"\xZ"`
 WORDS = "while parsing a quoted scalar" + "did not find expected hexadecimal number"
+# how deep a text is, and the most seconds that scanning it may take
+DEEP, SECONDS = 30000, 2
 SMALL = [
     b"%YAML 1.1\n%TAG ! x:\n---\n- &a a: [\xc3\xa9, \"b\"]\n- !b {c: *a, d: !!str e}\n- |\n  x\n...\n--- f\n",
     b'a: "\\xZ"\n',
@@ -419,6 +422,26 @@ def try_python(program, every):
     return not wrong and late > 0 and len(inputs) > 1000
 
 
+def attack(python, library):
+    """How many tokens PyYAML's C loader finds in a deep text, and how many seconds of a processor that takes."""
+    code = 'import time, yaml\nbegan = time.process_time()\ncount = sum(1 for _ in yaml.scan("[" * DEEP, Loader=yaml.CSafeLoader))\n'
+    words = [python, "-c", code.replace("DEEP", str(DEEP)) + "print(count, time.process_time() - began)"]
+    count, seconds = run(words, b"", library, check=True).stdout.split()
+    return int(count), float(seconds)
+
+
+def try_attack():
+    """libyaml's time grows with the square of the nesting, and that of this library with the length."""
+    python = loading_python()
+    if python is None:
+        print("libyaml: deep nesting skipped: no PyYAML stands on libyaml's shared library")
+        return True
+    (count, ours), (known, theirs) = (attack(python, library) for library in (OURS, ""))
+    good = count == known == DEEP + 2 and ours < SECONDS and theirs > 10 * ours
+    print(f"libyaml: {DEEP} openers: {ours:.2f} seconds, and {theirs:.2f} by libyaml{'' if good else ', WRONG'}")
+    return good
+
+
 def refusals(refuse, data):
     """For tokens, events, and tokens that are read: how many requests, errors, wrong ends, and ends that keep some."""
     told = run([refuse], data, OURS, check=True)
@@ -483,6 +506,7 @@ def main():
             try_pieces(program, every[::20]),
             try_given_up(program, [*every[::20], *ends]),
             try_python(program, [one for one in every[::2] if one not in limited]),
+            try_attack(),
             try_refusals(refuse),
             try_leaks(program, [*few, *ends]),
         ]

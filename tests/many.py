@@ -301,7 +301,7 @@ def try_archives(machines, room, counter):
         os.truncate(path, os.path.getsize(path) // 2)
     found, _, status = machines.lines([*names, "0.yaml"])
     unread = [line for line in found if "\t-\t-\tnot read: " in line]
-    wrong += status != 2 or len(unread) != len(names) or not found[-1].startswith("0.yaml\t") or len(found) < len(inputs)
+    wrong += status != 3 or len(unread) != len(names) or not found[-1].startswith("0.yaml\t") or len(found) < len(inputs)
     wrong += len(set(found) - set(unread) - set(lines)) != 1
     print(f"many: {len(lines)} members of {len(names)} archives, and {len(names)} cut archives, {wrong} wrong")
     return not wrong
@@ -332,7 +332,7 @@ def try_unread(machines, room):
     found, errors, status = machines.lines([name for name, _ in rows_wanted])
     found = [re.sub(r"^((no\.tar|nul\0)\t-\t-\tnot read: )\w.*", r"\1..", line) for line in found]
     wrong = differences("unread", found, [line for _, line in rows_wanted])
-    wrong += status != 2 or "1 with a fault, 9 not read; " not in errors
+    wrong += status != 3 or "1 with a fault, 9 not read; " not in errors
     print(f"many: {len(rows_wanted)} files, most of them not to be read, {wrong} wrong")
     return not wrong
 
@@ -388,7 +388,7 @@ def try_deadly(machines, counter):
     wanted = [plain_line(counter, path, EQUAL) for path in paths]
     wanted[25] = f"{paths[25]}\t-\t-\t{WHY_LOST}"
     deaths = sum(name == "deadly.yaml" for _, name in machines.opens())
-    wrong = differences("deadly", found, wanted) + (status != 2 or "1 not read; " not in errors) + (deaths != 2 * DEATHS)
+    wrong = differences("deadly", found, wanted) + (status != 3 or "1 not read; " not in errors) + (deaths != 2 * DEATHS)
     print(f"many: a file at which {deaths} workers ended, {wrong} wrong")
     return not wrong
 
@@ -418,7 +418,7 @@ def try_gone(machines, counter):
     write(machines.room, "go", b"")
     wanted = b"".join(plain_line(counter, path, EQUAL).encode() + b"\n" for path in paths)
     good = wanted.startswith(out) and (not out or out.endswith(b"\n")) and len(out) < len(wanted)
-    wrong = (not good) + ((program.returncode, errors) != (2, b"check: the scheduler is gone\n"))
+    wrong = (not good) + ((program.returncode, errors) != (3, b"check: the scheduler is gone\n"))
     if wrong:
         print(f"many: gone: status {program.returncode}, {errors[:300]}")
     print(f"many: the scheduler killed after {out.count(10)} of {len(paths)} lines, {wrong} wrong")
@@ -439,14 +439,15 @@ def try_alone(python, room):
     os.close(main)
     wrong = differences("alone", done.stdout.decode().split("\n"), ["good\t8\t4\t-", "good\t8\t4\t-", ""])
     wrong += done.returncode != 0 or "#] 100%  2 files, 0 with a fault" not in shown
-    for more, wanted in (
-        ("none", "check: none: No such file or directory\n"), (".", "check: .: Is a directory\n"), ("- <&-", "check: Bad file descriptor\n"),
-        ("--library none good", "check: .*none: cannot open shared object file: No such file or directory\n"),
-        ("--workers 0 good", "usage: check (?s:.*)\ncheck: error: .*\n"),
+    for more, status, wanted in (
+        ("none", 3, "check: none: No such file or directory\n"), (".", 3, "check: .: Is a directory\n"),
+        ("- <&-", 3, "check: Bad file descriptor\n"),
+        ("--library none good", 3, "check: .*none: cannot open shared object file: No such file or directory\n"),
+        ("--workers 0 good", 2, "usage: check (?s:.*)\ncheck: error: .*\n"),
     ):
         line = ["sh", "-c", f'"$@" {more}', "sh", *words]
         done = subprocess.run(line, cwd=room, stdin=subprocess.DEVNULL, capture_output=True, text=True, timeout=PATIENCE)
-        wrong += (done.returncode, done.stdout) != (2, "") or not re.fullmatch(wanted, done.stderr)
+        wrong += (done.returncode, done.stdout) != (status, "") or not re.fullmatch(wanted, done.stderr)
     print(f"many: a cluster of its own and wrong calls, {wrong} wrong")
     return not wrong
 
@@ -508,7 +509,7 @@ def try_no_dask():
     wrong = []
     for words, status, wanted in (
         ("--help", 0, "usage: check "), ("--version", 0, f"check (Bogzhami) {VERSION}\n"), ("", 2, "usage: check "),
-        ("--part 0 list", 2, "usage: check "), ("list", 2, "check: No module named 'dask': dask.distributed is needed "),
+        ("--part 0 list", 2, "usage: check "), ("list", 3, "check: No module named 'dask': dask.distributed is needed "),
     ):
         done = subprocess.run([sys.executable, "-E", "-S", CHECK, *words.split()], capture_output=True, text=True, timeout=PATIENCE)
         told = done.stderr if status else done.stdout

@@ -18,8 +18,9 @@ The Debian packages are installed by dpkg in a new root, which debootstrap makes
 which apt installs compilers. There the programs, programs in C and C++ that are compiled by what pkg-config and CMake say, the
 crate's example, and the Python module if there is one, list the worked rows of vectors/rows.txt as yamltok does. Python knows
 the version of the module, and pip installs it out of the tarball's folder. The crate's own tests run by `cargo test --offline`,
-and so does a crate that names it. PyYAML's CSafeLoader runs over the packaged libyaml. When the packages are removed, nothing
-of them is left. Then the tarball is unpacked in the same root, in a folder with a blank in its name, and the commands of its
+and so does a crate that names it. PyYAML's CSafeLoader runs over the packaged libyaml. The lines of README.md that show what
+deep nesting costs are given, with a text that is less deep: over the packaged libyaml it takes less than two seconds, and over
+libyaml's own at least ten times as long. When the packages are removed, nothing of them is left. Then the tarball is unpacked in the same root, in a folder with a blank in its name, and the commands of its
 README are given; so are those of the repository's READMEs, in a checkout (lib/readmes.py).
 
 It needs the program and the library that ./test has built, two to four minutes, 1.5 GB of disk and the rights of root. Without
@@ -47,6 +48,7 @@ import readmes
 from installing import make_virtual, wrong_installed
 from library import TOP, VERSION
 from places import NoRoot, make_folder, make_root
+from repository import read
 from worked import rows
 
 # What is of this checkout and no part of the repository, as .gitignore has it: the first in any folder, the others in one. A
@@ -549,6 +551,29 @@ def try_libyaml(place, folder):
     return say(good, f"PyYAML's CSafeLoader over {folder}/libyaml-0.so.2{'' if good else done.stderr.decode()}")
 
 
+DEEP, SECONDS = 30000, 2
+
+
+def attack():
+    """The lines of README.md that show what deep nesting costs, with a text that is less deep."""
+    block = next(lines for lines in readmes.blocks(read("README.md")) if lines[0].startswith("ATTACK="))
+    return [re.sub(r'"\[" \* \d+', f'"[" * {DEEP}', line) for line in block]
+
+
+def try_attack(place, folder):
+    """Gives these lines: the second one is over libyaml, and the third one over the library of the packages."""
+    if not os.path.exists(place.outer(folder) + "/libyaml-0.so.2"):
+        return skip("what deep nesting costs: libyaml-0.so.2 was not built")
+    if place.run(["/usr/bin/python3", "-c", "import yaml; yaml.CSafeLoader"]).returncode:
+        return skip("what deep nesting costs: no PyYAML for libyaml-0.so.2")
+    done = place.run(["bash", "-c", "\n".join(attack())], TIMEFORMAT="%U")
+    told = done.stderr.decode("utf-8", "replace")
+    seconds = [float(word) for word in re.findall(r"^\d+\.\d+$", told, re.M)]
+    good = done.stdout == b"%d tokens\n" % (DEEP + 2) * 2 and len(seconds) == 2
+    good = good and seconds[1] < SECONDS and seconds[0] > 10 * seconds[1]
+    return say(good, f"the lines of README.md on nesting: {' and '.join(map(str, seconds))} seconds{'' if good else ': ' + told[-600:]}")
+
+
 def install(place, folder, names):
     """Installs Debian packages in a root by dpkg alone."""
     for name in names:
@@ -581,6 +606,7 @@ def try_debian(place, folder):
         try_module(place),
         try_command(place, "what the Python module is told by", ["ls", *TOLD]) if HAS_MODULE else True,
         try_libyaml(place, f"{lib}/bogzhami"),
+        try_attack(place, f"{lib}/bogzhami"),
         try_sections(place, "the Debian packages", ["Debian packages"], place.folder),
     ]
     packages = [name.split("_")[0] for name in names]

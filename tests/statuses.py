@@ -2,8 +2,8 @@
 """Checks how the real process ends: statuses.py PROGRAM.
 
 For each command: its exit status, and what is on standard output and on standard error, if its words are wrong or
-no text, its input is closed or a folder, and its output is closed, full or a pipe that no one reads. So is what the program
-says of itself, with any input and without one.
+no text, its input is closed or a folder, and its output is closed, full or a pipe that no one reads. Of wrong words the first that
+is wrong or missing is named. So is what the program says of itself, with any input and without one.
 """
 
 import os
@@ -36,10 +36,22 @@ ENC is any, utf8, utf16le or utf16be. The exit status is 0; 1 if a line is a
 fault; 2 for wrong words; 3 if a read or a write fails or memory is refused.
 """
 NOTES = {"--help": HELP, "-h": HELP, "--version": VERSION}
-WRONG = [b"", b"decode", b"scan", b"calls", b"decode latin1", b"decode any any", b"scan any 0", b"scan any 65537",
-         b"scan any 07", b"scan any +1", b"scan any ", b"calls any", b"calls any x", b"calls any s s", b"list any",
-         b"--help any", b"-h --version", b"--versions", b"-", b"--", b"\xff any", b"decode \xff", b"scan any \xff", b"calls any s\xff"]
-ARGUMENTS, READ, WRITE = (b"yamltok: " + text + b"\n" for text in (b"wrong arguments", b"read failed", b"write failed"))
+NO_TEXT = b"a word is no text"
+NO_USE = b"there is no use for '%s'; the input is standard input"
+# Wrong words, and what is said of them after the line `wrong arguments`.
+WRONG = {
+    b"": b"a command is missing", b"decode": b"decode needs an encoding", b"scan": b"scan needs an encoding",
+    b"calls": b"calls needs an encoding", b"decode latin1": b"there is no encoding 'latin1'", b"decode any any": NO_USE % b"any",
+    b"scan any 0": b"there is no key limit '0'", b"scan any 65537": b"there is no key limit '65537'",
+    b"scan any 07": b"there is no key limit '07'", b"scan any +1": b"there is no key limit '+1'",
+    b"scan any ": b"there is no key limit ''", b"scan any 9 9": NO_USE % b"9", b"scan utf9 0": b"there is no encoding 'utf9'",
+    b"calls any": b"calls needs a word of s, p and k", b"calls any x": b"there is no list of calls 'x'",
+    b"calls any s s": NO_USE % b"s", b"calls any x s s": b"there is no list of calls 'x'", b"list any": b"there is no command 'list'",
+    b"list": b"there is no command 'list'", b"--help any": NO_USE % b"any", b"-h --version": NO_USE % b"--version",
+    b"--versions": b"there is no command '--versions'", b"-": b"there is no command '-'", b"--": b"there is no command '--'",
+    b"\xff any": NO_TEXT, b"decode \xff": NO_TEXT, b"scan any \xff": NO_TEXT, b"calls any s\xff": NO_TEXT,
+}
+READ, WRITE = (b"yamltok: " + text + b"\n" for text in (b"read failed", b"write failed"))
 
 
 def run(program, words, data=b"", before=None, **devices):
@@ -58,17 +70,22 @@ def unread_pipe():
     return writing
 
 
+def refused(words):
+    """How the program ends if these words are wrong."""
+    return 2, b"", b"yamltok: wrong arguments\nyamltok: " + WRONG[words] + b"\n" + HELP.partition(b"\n")[0] + b"\n"
+
+
 def ends(program):
     """What is checked: a name, what came, and what is expected: status, standard output, standard error."""
     for words in WRONG:
-        yield words, run(program, words.split(b" ") if words else [], b"a"), (2, b"", ARGUMENTS)
+        yield words, run(program, words.split(b" ") if words else [], b"a"), refused(words)
     for word, text in NOTES.items():
         yield word, run(program, [word], b"a\xff"), (0, text, b"")
         yield f"{word}, input closed", run(program, [word], stdin=None, before=lambda: os.close(0)), (0, text, b"")
         with open("/dev/full", "wb") as full:
             yield f"{word}, output full", run(program, [word], b"a", stdout=full), (3, b"", WRITE)
     with open(os.devnull, "rb") as unread:
-        yield "wrong words, no input", run(program, ["scan", "any", "0"], stdin=unread), (2, b"", ARGUMENTS)
+        yield "wrong words, no input", run(program, ["scan", "any", "0"], stdin=unread), refused(b"scan any 0")
     folder = os.open(HERE, os.O_RDONLY)
     for command in COMMANDS:
         words = command.split(" ")

@@ -3,11 +3,16 @@
 
 lint: small inputs of each kind of message, whose whole output and exit status are compared. The inputs of vectors/rows.txt and
 vectors/scan.txt.gz that are scanned in any encoding with the usual key limit end with status 0 or 1 and with the expected
-fault, thirty of them under valgrind. Each request for memory is refused in turn on four small inputs.
+fault, thirty of them under valgrind. Each request for memory is refused in turn on four small inputs and on a folder.
+
+lint of folders: the YAML files below them in order of name, also if there are many, and no links, pipes or other names. A name
+that is not there, a folder and a file that may not be read, and a path that is too long each have their line and the status 3;
+all else is looked at.
 
 highlight: on the worked rows and every third of those inputs the terminal's output without the escape sequences, and the page
 without tags and entities, are the input byte for byte, where what a terminal would act on and what a page may not hold stand as
-their bytes; for UTF-16 they are its text. With NO_COLOR the terminal gets the same without sequences. On the page each token
+their bytes; for UTF-16 they are its text. With NO_COLOR the terminal gets the same without sequences. In a real terminal the last
+line is ended before a message, and only there. On the page each token
 that the vectors name has the colour of its kind, comments have theirs, nothing else between tokens has one, and the fault is
 marked at its place. The colours of some inputs are written down here, for the terminal and the page.
 
@@ -17,6 +22,7 @@ later) or valgrind is skipped when there is none, and that is said.
 
 import html.parser
 import os
+import pty
 import re
 import shutil
 import subprocess
@@ -190,9 +196,9 @@ def try_messages(lint):
         wrong = sum(lint_wrong(lint, room, name) for name in LINTS)
         os.mkdir(os.path.join(room, "folder"))
         statuses = [
-            (["none"], 2, "", "lint: none: No such file or directory\n"),
-            (["folder"], 2, "", "lint: folder: Is a directory\n"),
-            (["none", "no key", "not open"], 2, f"not open:3:1: {SAME_A}\n", "lint: none: No such file or directory\n"),
+            (["none"], 3, "", "lint: none: No such file or directory\n"),
+            (["folder"], 0, "", ""),
+            (["none", "no key", "not open"], 3, f"not open:3:1: {SAME_A}\n", "lint: none: No such file or directory\n"),
         ]
         for words, *wanted in statuses:
             done = call(room, [lint, *words])
@@ -261,8 +267,23 @@ def try_lint_inputs(lint, scans):
     return not wrong and not lost
 
 
+def memory_refused(lint, path, refuser, seen):
+    """Refuses each request for memory in turn, until three runs in a row are whole. Of several files those that are not told to be
+    without memory are looked at."""
+    whole = run(lint, [path], b"", refuser, 0)
+    in_a_row, number = 0, 0
+    while in_a_row < 3 and number < 500:
+        number += 1
+        done = run(lint, [path], b"", refuser, number)
+        same = (done.stdout, done.returncode, done.stderr) == (whole.stdout, 1, b"")
+        part = not set(done.stdout.splitlines()) - set(whole.stdout.splitlines()) and len(done.stdout) < len(whole.stdout)
+        told = done.returncode == 3 and part and re.fullmatch(rb"lint: .*: (out of memory|Cannot allocate memory)\n", done.stderr)
+        kind = "whole" if same else "refused" if told else "wrong"
+        seen[kind] += 1
+        in_a_row = in_a_row + 1 if same else 0
+
+
 def try_lint_memory(lint):
-    """Refuses each request for memory in turn, until three runs in a row are whole."""
     seen = {"whole": 0, "refused": 0, "wrong": 0}
     with tempfile.TemporaryDirectory() as room:
         refuser = build_refuser(room)
@@ -270,18 +291,94 @@ def try_lint_memory(lint):
             path = os.path.join(room, "file")
             with open(path, "wb") as out:
                 out.write(LINTS[name][0])
-            whole = run(lint, [path], b"", refuser, 0)
-            in_a_row, number = 0, 0
-            while in_a_row < 3 and number < 500:
-                number += 1
-                done = run(lint, [path], b"", refuser, number)
-                same = (done.stdout, done.returncode, done.stderr) == (whole.stdout, 1, b"")
-                told = done.returncode == 2 and not done.stdout and re.search(rb"out of memory|Cannot allocate memory", done.stderr)
-                kind = "whole" if same else "refused" if told else "wrong"
-                seen[kind] += 1
-                in_a_row = in_a_row + 1 if same else 0
+            memory_refused(lint, path, refuser, seen)
+        folder = os.path.join(room, "folder")
+        put_files(folder, ["a.yaml", "b/c.yml"])
+        memory_refused(lint, folder, refuser, seen)
     print("uses: lint: memory refused: " + ", ".join(f"{count} {kind}" for kind, count in seen.items()))
-    return not seen["wrong"] and seen["refused"] > 20
+    return not seen["wrong"] and seen["refused"] > 50
+
+
+# lint of folders
+
+TWICE = b"a: 1\na: 2\n"
+# What is below a folder and is looked at, in that order, and what is not.
+LOOKED_AT = ["B.yaml", "a.yaml", "b/.yaml", "b/a/z.yml", "b/a.yaml", "b.yaml", "d.yaml/x.yaml", "e.yml", "é.yml"]
+NOT_LOOKED_AT = ["README", "a.YAML", "b/a.yaml~", "b/yaml", "b/yml.txt", "d.yaml/x"]
+NOBODY = 65534
+DEEP = 3000
+
+
+def put_files(folder, names):
+    for name in names:
+        os.makedirs(os.path.dirname(os.path.join(folder, name)), exist_ok=True)
+        with open(os.path.join(folder, name), "wb") as out:
+            out.write(TWICE)
+
+
+def messages(folder, names):
+    return "".join(f"{folder}{name}:2:1: {SAME_A}\n" for name in names)
+
+
+def make_deep(room):
+    """A folder with files in it, and below it so many folders, each in the one before, that no path reaches the last."""
+    put_files(room, ["deep/d/a.yaml", "deep/e.yaml"])
+    above = os.open(os.path.join(room, "deep"), os.O_RDONLY)
+    for _ in range(DEEP):
+        if not os.path.isdir(f"/proc/self/fd/{above}/d"):
+            os.mkdir("d", dir_fd=above)
+        below = os.open("d", os.O_RDONLY, dir_fd=above)
+        os.close(above)
+        above = below
+    os.close(above)
+
+
+def linted(lint, room, *words, **how):
+    done = subprocess.run([lint, *words], cwd=room, capture_output=True, timeout=60, **how)
+    return done.returncode, done.stdout.decode(), done.stderr.decode()
+
+
+def folder_calls(lint, room):
+    """What is called, what came, and what should have come."""
+    put_files(room, [f"tree/{name}" for name in LOOKED_AT + NOT_LOOKED_AT])
+    os.symlink("../tree", os.path.join(room, "tree", "c"))
+    os.symlink("a.yaml", os.path.join(room, "tree", "c.yaml"))
+    os.mkfifo(os.path.join(room, "tree", "p.yaml"))
+    os.symlink("tree", os.path.join(room, "link"))
+    for name in ("tree", "tree/", "link", "link/", "./tree"):
+        yield name, linted(lint, room, name), (1, messages(name.rstrip("/") + "/", LOOKED_AT), "")
+    yield ".", linted(lint, os.path.join(room, "tree"), "."), (1, messages("./", LOOKED_AT), "")
+    put_files(room, ["tree two/README"])
+    yield "no YAML files", linted(lint, room, "tree two"), (0, "", "")
+    lost = "lint: none: No such file or directory\n"
+    yield "none between", linted(lint, room, "tree/d.yaml", "none", "tree/e.yml"), (3, messages("tree/", LOOKED_AT[6:8]), lost)
+    many = [f"{number:04}.yaml" for number in range(2000)]
+    put_files(os.path.join(room, "many"), reversed(many))
+    yield "many", linted(lint, room, "many"), (1, messages("many/", many), "")
+    put_files(room, ["shut/a.yaml", "shut/b/c.yaml", "shut/d.yaml", "shut/e.yaml"])
+    for name in ("shut/b", "shut/d.yaml"):
+        os.chmod(os.path.join(room, name), 0)
+    lost = "".join(f"lint: {name}: Permission denied\n" for name in ("shut/b", "shut/d.yaml"))
+    how = {"user": NOBODY} if os.geteuid() == 0 else {}
+    yield "no permission", linted(lint, room, "shut", **how), (3, messages("shut/", ["a.yaml", "e.yaml"]), lost)
+    os.chmod(os.path.join(room, "shut/b"), 0o700)
+    make_deep(room)
+    found = linted(lint, room, "deep")
+    yield "deep", found[:2], (3, messages("deep/", ["d/a.yaml", "e.yaml"]))
+    yield "deep, what is lost", bool(re.fullmatch(r"lint: deep(/d){2000,2100}: File name too long\n", found[2])), True
+    with open("/dev/full", "wb") as full:
+        done = subprocess.run([lint, "many"], cwd=room, stdout=full, stderr=subprocess.PIPE, timeout=60)
+    yield "a full disk", (done.returncode, done.stderr), (3, b"lint: standard output: No space left on device\n")
+
+
+def try_folders(lint):
+    with tempfile.TemporaryDirectory() as room:
+        os.chmod(room, 0o755)
+        found = list(folder_calls(lint, room))
+        subprocess.run(["rm", "-rf", os.path.join(room, "deep")], check=True)
+    wrong = [(what, str(got)[-600:]) for what, got, wanted in found if got != wanted]
+    print(f"uses: lint: {len(found)} calls with folders, {len(wrong)} wrong {wrong[:3] or ''}")
+    return not wrong and len(found) > 10
 
 
 # highlight
@@ -420,8 +517,52 @@ def try_pieces(highlight):
             wrong += call(room, [highlight, "0.yaml"], NO_COLOR=no_color).stdout != wanted
         write_files(room, [b"<&>\"'\r\n"])
         done = call(room, [highlight, "none", "0.yaml"])
-        wrong += (done.returncode, done.stderr) != (2, b"highlight: none: No such file or directory\n") or done.stdout != b"<&>\"'\r\n"
+        wrong += (done.returncode, done.stderr) != (3, b"highlight: none: No such file or directory\n") or done.stdout != b"<&>\"'\r\n"
     print(f"uses: highlight: {len(PIECES) + len(SHOWN) + len(files) + 2} outputs compared, {wrong} wrong")
+    return not wrong
+
+
+# Texts that highlight shows in a terminal, the other words, whether there are colours, and what the terminal gets.
+OPEN_FAULT = "found unexpected end of stream, while scanning a quoted scalar that starts at 1:1"
+IN_TERMINAL = [
+    (b"'a", [], "1", f"'a\r\n0.yaml:1:3: {OPEN_FAULT}\r\n"),
+    (b"'a\n", [], "1", f"'a\r\n0.yaml:2:1: {OPEN_FAULT}\r\n"),
+    (b"'a\n", [], "", f"'a\r\n\x1b[97;41m\x1b[K\x1b[0m\r\n0.yaml:2:1: {OPEN_FAULT}\r\n"),
+    (b"a", ["none"], "1", "a\r\nhighlight: none: No such file or directory\r\n"),
+    (b"a\n", ["none"], "1", "a\r\nhighlight: none: No such file or directory\r\n"),
+    (b"a", [], "1", "a"),
+    (b"", ["none"], "1", "highlight: none: No such file or directory\r\n"),
+]
+
+
+def in_terminal(room, words, **variables):
+    """What a program writes to a terminal, which is its standard output and its standard error."""
+    ours, its = pty.openpty()
+    environment = {**{name: value for name, value in os.environ.items() if name != "NO_COLOR"}, **variables}
+    with subprocess.Popen(words, cwd=room, stdin=subprocess.DEVNULL, stdout=its, stderr=its, env=environment) as program:
+        os.close(its)
+        found = b""
+        try:
+            while piece := os.read(ours, 4096):
+                found += piece
+        except OSError:  # the program has ended, and no one else has the terminal
+            pass
+        program.wait(60)
+    os.close(ours)
+    return found.decode()
+
+
+def try_terminal(highlight):
+    wrong = []
+    with tempfile.TemporaryDirectory() as room:
+        for data, more, no_color, wanted in IN_TERMINAL:
+            write_files(room, [data])
+            found = in_terminal(room, [highlight, "0.yaml", *more], NO_COLOR=no_color)
+            wrong += [found] if found != wanted else []
+        write_files(room, [b"'a"])
+        piped = call(room, [highlight, "0.yaml"], NO_COLOR="1")
+        wrong += [piped] if (piped.stdout, piped.stderr.decode()) != (b"'a", f"0.yaml:1:3: {OPEN_FAULT}\n") else []
+    print(f"uses: highlight: {len(IN_TERMINAL) + 1} texts in a terminal and a pipe, {len(wrong)} wrong {wrong[:2] or ''}")
     return not wrong
 
 
@@ -583,16 +724,18 @@ def main():
     worked = [(data, wanted) for words, data, wanted in rows() if words == ["scan", "any"]]
     scans = [(data, wanted) for words, data, wanted in vectors() if words == ["any"]]
     with tempfile.TemporaryDirectory() as room:
+        os.chmod(room, 0o755)  # who has no rights runs lint, too
         lint, highlight = build(room)
         good = [
             try_messages(lint),
             try_lint_inputs(lint, worked + scans),
             try_lint_memory(lint),
+            try_folders(lint),
         ]
         if highlight is None:
             print("uses: highlight skipped: no rustc of 1.63 or later")
         else:
-            good += [try_pieces(highlight), try_texts(highlight, worked + scans[::3])]
+            good += [try_pieces(highlight), try_terminal(highlight), try_texts(highlight, worked + scans[::3])]
         good.append(try_hostile([[lint]] + ([[highlight], [highlight, "--html"]] if highlight else [])))
     return 0 if all(good) and len(scans) > 5000 else 1
 

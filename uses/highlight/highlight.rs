@@ -1,22 +1,27 @@
 //! highlight [--html] [FILE ..]: shows YAML files in colours, in the terminal or as a page of HTML. Without a file, or for the file
-//! `-`, it reads standard input. The exit status is 0; 1 when a file has a fault; 2 when a file can not be read, the output can
-//! not be written, memory is refused or the words are wrong.
+//! `-`, it reads standard input. The exit status is 0; 1 when a file has a fault; 2 when the words are wrong; 3 when a file can
+//! not be read, the output can not be written or memory is refused.
 mod page;
 mod pieces;
 #[path = "../../rust/src/scanner.rs"]
 mod scanner;
+mod screen;
 mod terminal;
 mod text;
 mod words;
 
 use pieces::Cutter;
 use scanner::{library_version, Fault, Scanner};
+use screen::Screen;
 use std::ffi::{OsStr, OsString};
-use std::io::{self, BufWriter, ErrorKind, Read, Write};
+use std::io::{self, ErrorKind, Read, Write};
 use std::path::Path;
 use std::process::ExitCode;
 use text::Text;
 use words::Asked;
+
+/// The exit status when reading or writing fails, or memory is refused.
+const LOST: u8 = 3;
 
 /// How texts are shown.
 #[derive(Clone, Copy, PartialEq, Eq)]
@@ -39,18 +44,19 @@ fn reason(error: &io::Error) -> String {
 }
 
 impl Command {
-    fn fail(&self, what: &str, why: &str) -> u8 {
+    fn fail(&self, out: &mut Screen, what: &str, why: &str) -> io::Result<u8> {
+        out.end_line()?;
         eprintln!("{}: {what}: {why}", self.program);
-        2
+        Ok(LOST)
     }
 
     /// Shows an input, and returns the exit status that it asks for.
-    fn show(&self, out: &mut dyn Write, title: &str, input: &[u8]) -> io::Result<u8> {
+    fn show(&self, out: &mut Screen, title: &str, input: &[u8]) -> io::Result<u8> {
         let text = Text::new(input);
         let mut cutter = Cutter::new(&text.bytes);
         let fault = cutter.tokens(Scanner::new(input));
         if fault == Some(Fault::Memory) {
-            return Ok(self.fail(title, "out of memory"));
+            return self.fail(out, title, "out of memory");
         }
         let problem = fault.map(|fault| text.problem(input, &fault));
         let pieces = cutter.finish(problem.as_ref());
@@ -62,21 +68,21 @@ impl Command {
             Some(problem) => problem,
             None => return Ok(0),
         };
-        out.flush()?;
+        out.end_line()?;
         eprintln!("{title}:{}:{}: {}", problem.line, problem.column, problem.message);
         Ok(1)
     }
 
-    fn show_file(&self, out: &mut dyn Write, name: &OsStr) -> io::Result<u8> {
+    fn show_file(&self, out: &mut Screen, name: &OsStr) -> io::Result<u8> {
         let title = title(name);
         match read(name) {
             Ok(input) => self.show(out, &title, &input),
-            Err(error) => Ok(self.fail(&title, &reason(&error))),
+            Err(error) => self.fail(out, &title, &reason(&error)),
         }
     }
 
     /// Shows all files, and returns the exit status.
-    fn show_all(&self, out: &mut dyn Write, names: &[OsString]) -> io::Result<u8> {
+    fn show_all(&self, out: &mut Screen, names: &[OsString]) -> io::Result<u8> {
         if self.form == Form::Page {
             page::begin(out, &title(&names[0]))?;
         }
@@ -120,7 +126,7 @@ fn form(is_page: bool) -> Form {
 
 /// Does what the words ask for, and returns the exit status.
 fn obey(asked: Asked, program: &str) -> io::Result<u8> {
-    let mut out = BufWriter::new(io::stdout().lock());
+    let mut out = Screen::new();
     match asked {
         Asked::Help => write!(out, "usage: {program} [--html] [FILE ..]\n\n{}", words::HELP)?,
         Asked::Version => writeln!(out, "{program} (Bogzhami) {}", library_version())?,
@@ -140,12 +146,12 @@ fn main() -> ExitCode {
     let path = words.next().unwrap_or_else(|| "highlight".into());
     let program = Path::new(&path).file_name().unwrap_or(&path).to_string_lossy();
     let asked = words::asked(words).map_err(|wrong| format!("{wrong}\nusage: {program} [--html] [FILE ..]"));
-    let told = match asked.map(|asked| obey(asked, &program)) {
+    let (told, status) = match asked.map(|asked| obey(asked, &program)) {
         Ok(Ok(status)) => return ExitCode::from(status),
-        Ok(Err(error)) if error.kind() == ErrorKind::BrokenPipe => return ExitCode::from(2), // no one reads any more
-        Ok(Err(error)) => format!("standard output: {}", reason(&error)),
-        Err(wrong) => wrong,
+        Ok(Err(error)) if error.kind() == ErrorKind::BrokenPipe => return ExitCode::from(LOST), // no one reads any more
+        Ok(Err(error)) => (format!("standard output: {}", reason(&error)), LOST),
+        Err(wrong) => (wrong, 2),
     };
     eprintln!("{program}: {told}");
-    ExitCode::from(2)
+    ExitCode::from(status)
 }

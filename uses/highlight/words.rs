@@ -10,8 +10,8 @@ Without FILE, or if FILE is -, it reads standard input.
 
 In the terminal there are no colours if the variable NO_COLOR has a value.
 
-The exit status is 0; 1 when a file has a fault; 2 when a file can not be read, the output can
-not be written, memory is refused or the words are wrong.
+The exit status is 0; 1 when a file has a fault; 2 when the words are wrong; 3 when a file can
+not be read, the output can not be written or memory is refused.
 ";
 
 /// What the words ask for.

@@ -1,12 +1,16 @@
 /* lint [-w WIDTH] FILE ..: looks for likely mistakes in YAML files, and prints each as file:line:column: message. The file - is
- * standard input. The exit status is 0; 1 when there is a message; 2 when a file can not be read, the output can not be written,
- * memory is refused or the words are wrong.
+ * standard input. A folder stands for the files below it whose names end with .yaml or .yml. The exit status is 0; 1 when there
+ * is a message; 2 when the words are wrong; 3 when a file or a folder can not be read, the output can not be written or memory
+ * is refused.
  *
  * A file is scanned in batches, into rooms that are used again. Of the tokens only the keys, the anchors and aliases, and
  * the lines that hold a key are kept. Each list is sorted, so that what belongs together is side by side. The time is that
  * of sorting, for every input. */
+#define _POSIX_C_SOURCE 200809L /* for lstat */
+
 #include "bogzhami.h"
 
+#include <dirent.h>
 #include <errno.h>
 #include <getopt.h>
 #include <inttypes.h>
@@ -14,11 +18,15 @@
 #include <stdio.h>
 #include <stdlib.h>
 #include <string.h>
+#include <sys/stat.h>
 
 #define DEFAULT_WIDTH 80
 #define SHOWN_NAME 60 /* bytes of a name that a message shows */
 
 enum { BATCH = 256, FIRST_TEXTS = 1 << 14, BLOCK = 1 << 16 };
+
+/* The exit status when reading or writing fails, or memory is refused. */
+enum { LOST = 3 };
 
 enum kind { FAULT, DUPLICATE_KEY, TAB, TRAILING_BLANK, UNUSED_ANCHOR, MISSING_ANCHOR, LONG_LINE };
 
@@ -108,15 +116,20 @@ static void free_file(struct file *f) {
 }
 
 /* Makes room for one more item in a list, and returns where the list is now; NULL if memory is refused. */
-static void *with_room(struct file *f, void *items, size_t count, size_t *room, size_t size) {
+static void *grown(void *items, size_t count, size_t *room, size_t size) {
     if (count < *room)
         return items;
     size_t wanted = *room ? *room * 2 : 16;
     void *more = realloc(items, wanted * size);
     if (more)
         *room = wanted;
-    else
-        f->out_of_memory = true;
+    return more;
+}
+
+/* The same for a list of a file, which keeps whether memory is refused. */
+static void *with_room(struct file *f, void *items, size_t count, size_t *room, size_t size) {
+    void *more = grown(items, count, room, size);
+    f->out_of_memory = f->out_of_memory || !more;
     return more;
 }
 
@@ -585,14 +598,14 @@ static const char *program = "lint"; /* what it was called by */
 static int fail(const char *name, const char *problem) {
     fflush(stdout);
     fprintf(stderr, "%s: %s: %s\n", program, name, problem);
-    return 2;
+    return LOST;
 }
 
 /* Sees that all is written, and returns the exit status that this asks for. A pipe that no one reads any more is not told. */
 static int flush(void) {
     if (!fflush(stdout) && !ferror(stdout))
         return 0;
-    return errno == EPIPE ? 2 : fail("standard output", strerror(errno));
+    return errno == EPIPE ? LOST : fail("standard output", strerror(errno));
 }
 
 static int lint_read(struct file *f, const char *name, uint64_t width) {
@@ -622,9 +635,7 @@ static int lint_open(FILE *from, const char *name, uint64_t width) {
     return status;
 }
 
-static int lint(const char *name, uint64_t width) {
-    if (!strcmp(name, "-"))
-        return lint_open(stdin, "standard input", width);
+static int lint_file(const char *name, uint64_t width) {
     FILE *from = fopen(name, "rb");
     if (!from)
         return fail(name, strerror(errno));
@@ -633,13 +644,120 @@ static int lint(const char *name, uint64_t width) {
     return status;
 }
 
+static int greater(int left, int right) { return left > right ? left : right; }
+
+/* Folders. */
+
+/* Paths that are to be looked at, the next one last. */
+struct paths {
+    char **items;
+    size_t count, room;
+};
+
+static void free_paths(struct paths *paths) {
+    while (paths->count)
+        free(paths->items[--paths->count]);
+    free(paths->items);
+}
+
+/* The path of what a folder has under a name; NULL if memory is refused. */
+static char *path_of(const char *folder, const char *name) {
+    size_t len = strlen(folder), name_len = strlen(name) + 1;
+    char *path = malloc(len + 1 + name_len);
+    if (!path)
+        return NULL;
+    memcpy(path, folder, len);
+    if (path[len - 1] != '/')
+        path[len++] = '/';
+    memcpy(path + len, name, name_len);
+    return path;
+}
+
+/* Adds the path of what a folder has under a name; false if memory is refused. */
+static bool add_path(struct paths *to, const char *folder, const char *name) {
+    char **items = grown(to->items, to->count, &to->room, sizeof *items);
+    if (!items)
+        return false;
+    to->items = items;
+    items[to->count] = path_of(folder, name);
+    return items[to->count] && ++to->count;
+}
+
+/* The name after the last one of a folder that is neither the folder itself nor the one above it. NULL at the end, where errno is
+ * 0, and if reading fails. */
+static const char *next_name(DIR *from) {
+    for (;;) {
+        errno = 0;
+        const struct dirent *found = readdir(from);
+        if (!found || (strcmp(found->d_name, ".") && strcmp(found->d_name, "..")))
+            return found ? found->d_name : NULL;
+    }
+}
+
+/* From the last one to the first. */
+static int compare_paths(const void *left, const void *right) { return strcmp(*(char *const *)right, *(char *const *)left); }
+
+/* Adds what a folder has, so that the first name is the next one. Returns 0, or the exit status if that fails. */
+static int read_folder(struct paths *to, const char *folder) {
+    DIR *from = opendir(folder);
+    if (!from)
+        return fail(folder, strerror(errno));
+    size_t before = to->count;
+    const char *name, *problem = NULL;
+    while (!problem && (name = next_name(from)))
+        problem = add_path(to, folder, name) ? NULL : "out of memory";
+    if (!problem && errno)
+        problem = strerror(errno);
+    closedir(from);
+    if (to->count > before)
+        qsort(to->items + before, to->count - before, sizeof *to->items, compare_paths);
+    return problem ? fail(folder, problem) : 0;
+}
+
+/* Whether a path ends as that of a YAML file does. */
+static bool is_yaml(const char *path) {
+    const char *end = strrchr(path, '.');
+    return end && (!strcmp(end, ".yaml") || !strcmp(end, ".yml"));
+}
+
+/* Looks at a YAML file that a folder has, or adds what a folder in it has. A link is not followed, and all else is left out. */
+static int lint_found(struct paths *left, const char *path, uint64_t width) {
+    struct stat found;
+    if (lstat(path, &found))
+        return fail(path, strerror(errno));
+    if (S_ISDIR(found.st_mode))
+        return read_folder(left, path);
+    return S_ISREG(found.st_mode) && is_yaml(path) ? lint_file(path, width) : 0;
+}
+
+/* Looks at all YAML files below a folder, in the order of their names. */
+static int lint_folder(const char *name, uint64_t width) {
+    struct paths left = {0};
+    int status = read_folder(&left, name);
+    while (left.count && !ferror(stdout)) {
+        char *path = left.items[--left.count];
+        status = greater(status, lint_found(&left, path, width));
+        free(path);
+    }
+    free_paths(&left);
+    return status;
+}
+
+static bool is_folder(const char *name) {
+    struct stat about;
+    return !stat(name, &about) && S_ISDIR(about.st_mode);
+}
+
+static int lint(const char *name, uint64_t width) {
+    if (!strcmp(name, "-"))
+        return lint_open(stdin, "standard input", width);
+    return is_folder(name) ? lint_folder(name, width) : lint_file(name, width);
+}
+
 static int lint_all(char **names, uint64_t width) {
     int status = 0;
-    for (; *names && !ferror(stdout); names++) {
-        int one = lint(*names, width);
-        if (one > status)
-            status = one;
-    }
+    for (; *names && !ferror(stdout); names++)
+        status = greater(status, lint(*names, width));
     return status;
 }
 
@@ -647,12 +765,13 @@ static int lint_all(char **names, uint64_t width) {
 
 static const char options_help[] =
     "Looks for likely mistakes in YAML files, and prints each as file:line:column: message.\n"
-    "The file - is standard input.\n\n"
+    "The file - is standard input. A folder stands for the files below it whose names end with\n"
+    ".yaml or .yml.\n\n"
     "  -w, --width WIDTH  lines may have that many characters; without it 80\n"
     "  -h, --help         print this\n"
     "      --version      print the version\n\n"
-    "The exit status is 0; 1 when there is a message; 2 when a file can not be read, the output\n"
-    "can not be written, memory is refused or the words are wrong.\n";
+    "The exit status is 0; 1 when there is a message; 2 when the words are wrong; 3 when a file or a\n"
+    "folder can not be read, the output can not be written or memory is refused.\n";
 
 static void print_usage(FILE *to) { fprintf(to, "usage: %s [-w WIDTH] FILE ..\n", program); }
 

@@ -3,13 +3,13 @@
 
 LIST has a path a line; `-` is standard input. Of a path that ends as a tar or zip archive, the regular members are scanned. For each
 file there is one line of output, in the order of the list, with tabs in it: path, tokens, bytes, and the fault with its line
-and column, or `-`. The exit status is 0, 1 if a file has a fault, 2 if a file was not read or the call is wrong.
+and column, or `-`. The exit status is 0, 1 if a file has a fault, 2 if the call is wrong, and 3 if a file was not read.
 """
 
 import os
 import signal
 
-UNWRITTEN, INTERRUPTED = 3, 130  # exit statuses
+LOST, INTERRUPTED = 3, 130  # exit statuses
 HANDLER = signal.getsignal(signal.SIGINT)
 if __name__ == "__main__" and HANDLER is signal.default_int_handler:
     signal.signal(signal.SIGINT, lambda *_: os._exit(INTERRUPTED))  # what is imported takes a while
@@ -72,7 +72,7 @@ try:
     from distributed.comm import CommClosedError
 except ImportError as lacking:
     sys.stderr.write(f"check: {lacking}: dask.distributed is needed (Debian: python3-distributed, for /usr/bin/python3)\n")
-    sys.exit(2)
+    sys.exit(LOST)
 
 ARCHIVES = (b".tar", b".tar.gz", b".tgz", b".tar.bz2", b".tbz2", b".tar.xz", b".txz", b".zip")
 MEGABYTE = 1_000_000
@@ -377,7 +377,7 @@ def scan_list(words, cut):
         processors, bar = scan.processors, Bar()
         found = write_all(scan, cut, processors, bar)
         bar.end(found, processors)
-    return 2 if found.unread else 1 if found.faults else 0
+    return LOST if found.unread else 1 if found.faults else 0
 
 
 def told_of(wrong):
@@ -399,12 +399,12 @@ def main(words):
     except Unwritten as wrong:
         if wrong.args[0].errno != errno.EPIPE:
             sys.stderr.write(f"check: write failed: {wrong.args[0].strerror}\n")
-        return UNWRITTEN
+        return LOST
     except KeyboardInterrupt:
         return INTERRUPTED
     except OSError as wrong:
         sys.stderr.write(f"check: {told_of(wrong)}\n")
-    return 2
+    return LOST
 
 
 if __name__ == "__main__":

@@ -15,3 +15,5 @@ mod row_tests;
 mod scan_tests;
 #[cfg(test)]
 mod tests;
+#[cfg(test)]
+mod word_fault_tests;

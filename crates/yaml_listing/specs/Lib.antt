@@ -3,5 +3,6 @@ pub mod Listing
 pub mod Args
 pub mod Outcome
 pub mod Note
+pub mod WordFault
 pub mod Run
 pub mod inside

@@ -40,7 +40,7 @@ fn is_letter(letter: u8) -> bool
 }
 
 /// Whether all letters of a word stand for calls.
-fn are_letters(word: &str) -> bool
+pub(crate) fn are_letters(word: &str) -> bool
     ensures { result ≡ are_letters word.now }
 {
     word.bytes().all(is_letter)
@@ -58,7 +58,7 @@ pub fn is_right(command: &yaml_command_t) -> bool
 }
 
 /// The encoding setting of a word, if it is the word of one.
-fn parse_setting(word: &str) -> Option<yaml_encoding_t>
+pub(crate) fn parse_setting(word: &str) -> Option<yaml_encoding_t>
     ensures some { IfSome result (λ setting. word.now ≡ setting_word setting) }
     ensures none { IfNone result ((setting : yaml_encoding_t) → word.now ≢ setting_word setting) }
 {
@@ -79,7 +79,7 @@ fn is_led(word: &str) -> bool
 }
 
 /// A number from 1 to 65,536, in decimal digits without a leading zero.
-fn parse_limit(word: &str) -> Option<u32>
+pub(crate) fn parse_limit(word: &str) -> Option<u32>
     ensures some { IfSome result (λ limit. (word.now ≡ decimal limit) × (is_limit limit ≡ true)) }
     ensures none { IfNone result ((limit : ℕ) → is_limit limit ≡ true → word.now ≢ decimal limit) }
 {

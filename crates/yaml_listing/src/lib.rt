@@ -12,9 +12,11 @@ mod note;
 mod outcome;
 mod put;
 pub mod run;
+mod word_fault;
 
 pub use args::{parse_args, yaml_command_t};
 pub use devices::{yaml_broken_t, yaml_sink_of_t, yaml_sink_t, yaml_source_of_t, yaml_source_t};
 pub use listing::{list_fault, list_peek, list_token};
 pub use note::{note_text, parse_note, tell, yaml_note_t};
 pub use outcome::{tool_fault_t, yaml_status};
+pub use word_fault::{fault_of_words, yaml_word_fault_t};

@@ -19,7 +19,7 @@ pub enum yaml_note_t {
 }
 
 /// The note that a word alone asks for, if it asks for one.
-fn parse_word(word: &str) -> Option<yaml_note_t>
+pub(crate) fn parse_word(word: &str) -> Option<yaml_note_t>
     ensures some { IfSome result (λ note. AsksFor (word.now ∷ []) note) }
     ensures none { IfNone result ((note : yaml_note_t) → AsksFor (word.now ∷ []) note → ⊥) }
 {

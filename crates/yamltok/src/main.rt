@@ -13,7 +13,8 @@
 //! `yamltok --help` and `yamltok --version` read nothing: they write which words there are, and which version it is.
 //!
 //! The exit status is 0 if no line is that of a fault, 1 if one is, 2 for wrong arguments, and 3 if a read or a write
-//! failed or there was no memory for the input or the listing.
+//! failed or there was no memory for the input or the listing. With status 2 and 3 a line on standard error says which
+//! of these it is. After wrong arguments a second one names the word that is wrong, and a third one has the usage.
 #![tactic(auto)]
 
 use std::env;
@@ -21,7 +22,8 @@ use std::env::Env;
 use std::io::ErrorKind;
 use std::process::ExitCode;
 use yaml_listing::{
-    parse_args, parse_note, run, tell, tool_fault_t, yaml_sink_of_t, yaml_source_of_t, yaml_status,
+    fault_of_words, parse_args, parse_note, run, tell, tool_fault_t, yaml_sink_of_t,
+    yaml_source_of_t, yaml_status,
 };
 
 /// The words of the command line, without the program's name.
@@ -33,22 +35,43 @@ fn command_words<R: Env + AllocGlobal>(rt: &R) -> Result<Vec<String>, tool_fault
     }
 }
 
-fn outcome_of(rt: &HostRuntime) -> Result<bool, tool_fault_t> {
-    let words = command_words(rt)?;
+fn outcome_of(rt: &HostRuntime, words: &[String]) -> Result<bool, tool_fault_t> {
     let mut writer = yaml_sink_of_t::new(rt.stdout());
-    if let Some(note) = parse_note(&words) {
+    if let Some(note) = parse_note(words) {
         tell(note, &mut writer)?;
         return Ok(false);
     }
-    let command = parse_args(&words).ok_or(tool_fault_t::Args)?;
+    let command = parse_args(words).ok_or(tool_fault_t::Args)?;
     let mut reader = yaml_source_of_t::new(rt.stdin());
     run::run(rt.alloc(), &command, &mut reader, &mut writer)
 }
 
+/// Says on standard error which of the words is wrong, and which there are to be.
+fn explain(rt: &HostRuntime, words: &Result<Vec<String>, tool_fault_t>) {
+    match words {
+        Ok(words) => {
+            if let Some(fault) = fault_of_words(words) {
+                let _ = eprintln!(rt; "yamltok: {fault}");
+            }
+        }
+        Err(_) => {
+            let _ = eprintln!(rt; "yamltok: a word is no text");
+        }
+    }
+    let _ = eprintln!(rt; "usage: yamltok COMMAND ENC [WORD] < FILE");
+}
+
 fn main(rt: HostRuntime) -> ExitCode {
-    let outcome = outcome_of(&rt);
+    let words = command_words(&rt);
+    let outcome = match &words {
+        Ok(words) => outcome_of(&rt, words),
+        Err(fault) => Err(*fault),
+    };
     if let Err(fault) = &outcome {
         let _ = eprintln!(rt; "yamltok: {fault}");
+        if *fault == tool_fault_t::Args {
+            explain(&rt, &words);
+        }
     }
     ExitCode::from(yaml_status(&outcome))
 }
