@@ -1,4 +1,4 @@
-use Rattle.std.proofs.Common.{◌+◌, ◌∙◌, Bool, arith, inl, subst}
+use Rattle.std.proofs.Common.{◌+◌, ◌∙◌, Bool, arith, inl, rules, subst}
 use Rattle.yaml_scan.specs.declared.scanner.state_t.{state_t}
 use Rattle.yaml_scan.specs.inside.Scanner.{scanner_of}
 use Rattle.yaml_scan.specs.inside.Scanning.{Beside, IsMet, Stays}
@@ -29,3 +29,6 @@ step_of-requires-clause-made g c = let w = c.requires.passes in let b = subst (�
 pub returns-in-Err-ensure_room : goal.returns-in-Err-ensure_room
 returns-in-Err-ensure_room g c = let e = c.in-Err-ensure_room.ensures c.args.text.now in
     (inl (rw c.stopped-in-Err-ensure_room.ensures e.0), (subst (λ (u : state_t). Stays (scanner_of c.args.text.now u) (scanner_of c.args.text.now c.ensure_room.new.state)) c.in-Ok.ensures.1 e.1).halts)
+
+pub returns-in-Err : goal.returns-in-Err
+returns-in-Err g c = search rules

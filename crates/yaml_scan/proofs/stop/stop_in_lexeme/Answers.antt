@@ -1,4 +1,4 @@
-use Rattle.std.proofs.Common.{◌≡◌, List, Err, sym, subst, inl, inr}
+use Rattle.std.proofs.Common.{◌≡◌, List, Err, rules, sym, subst, inl, inr}
 use Rattle.yaml_text.specs.Fault.{Fault}
 use Rattle.yaml_lexeme.specs.declared.problem.yaml_problem_t.{yaml_problem_t}
 use Rattle.yaml_lexeme.specs.declared.problem.yaml_refusal_t.{yaml_refusal_t}
@@ -24,3 +24,6 @@ offends H s q k r p c e o f = elim (f (gap_end_of (source_of s.text.chars) H) c.
 pub keep_nearest-requires : goal.keep_nearest-requires
 keep_nearest-requires g c = let w = c.requires in let can = w.1 in
     (can.can, subst (λ (f : Fault). Offends g.before (scanner_of c.args.text.now c.args.state.now) f) (sym c.yaml_lexeme_fault-fault.ensures) (offends g.before (scanner_of c.args.text.now c.args.state.now) w.0 c.args.kind c.args.refusal c.in-OFFENCE.field-0 can w.2 c.in-OFFENCE.is w.3))
+
+pub returns-in-MEMORY : goal.returns-in-MEMORY
+returns-in-MEMORY g c = search rules
