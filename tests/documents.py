@@ -7,7 +7,8 @@ One line of output for each check; what is wrong is printed before it. The check
   any name. Paths are from the repository's root, or from the document's folder; those of definitions, proofs and code may be
   from any folder of a crate. What scripts write may be missing:
   bench/results.md, docs/speed.svg and what is in a folder `out`. The documents are README.md, CHANGELOG.md, CONTRIBUTING.md,
-  docs/, and the README files of tests/, bench/, uses/, ffi/, rust/, python/, of each crate and of its proofs.
+  docs/, bench/, packaging/DECISIONS.md, and the README files of tests/, uses/, ffi/, rust/, python/, of each crate and of its
+  proofs.
 - written: what `./dev folders` writes is what it would write now: the README.md of each folder of proofs, and of each folder of
   code, definitions or shared scripts that has more than eight files; the picture in ARCHITECTURE.md, and the lists of what
   Headline.antt stands on; the laws in PROMISES.md; the clauses in RULES.md. The marks of such a part are there once.
@@ -60,8 +61,9 @@ from repository import TOP, edit_file, edit_name, found, read
 from rules import files_in, front_and_sections, rules, tests_in
 from written import stale, written
 
-DOCUMENTS = ["README.md", "CHANGELOG.md", "CONTRIBUTING.md", "docs/*.md", "tests/README.md", "bench/README.md", "uses/*/README.md",
-             "ffi/README.md", "rust/README.md", "python/README.md", "crates/*/README.md", "crates/*/proofs/README.md"]
+DOCUMENTS = ["README.md", "CHANGELOG.md", "CONTRIBUTING.md", "docs/*.md", "tests/README.md", "bench/*.md", "uses/*/README.md",
+             "ffi/README.md", "packaging/DECISIONS.md", "rust/README.md", "python/README.md", "crates/*/README.md",
+             "crates/*/proofs/README.md"]
 FOLDERS = ("bench", "crates", "docs", "ffi", "packaging", "python", "rust", "tests", "uses")
 ENDINGS = ("antt", "c", "css", "edit", "gz", "h", "html", "md", "py", "rs", "rt", "txt")
 OF_CRATES = ("antt", "rt")  # paths with these endings may be from a folder of a crate
