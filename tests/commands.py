@@ -36,6 +36,7 @@ RUN = {
     "./dev docs": (False, r"documents: \d+ paths, 0 wrong\n(documents: \d+ [\w, ]+, 0 wrong\n)+"),
     "./dev vector 613a2031": (True, r"(?s).*\nscan any < 613a2031: as expected\n  STREAM-START 0:0:0 0:0:0 UTF8\n.*"),
     "./dev test statuses": (True, r"statuses: \d+ ends, 0 wrong\n"),
+    "./dev change escape": (False, r"A new escape in double quotes\nIt begins in\n(  [^ ].*\n(    .*\n)*|\w.*\n)+Watch\n(  - .*\n(    .*\n)*)+"),
 }
 
 # Commands that are not run, and why.
@@ -55,7 +56,7 @@ WRONG_NAMES = {
     "help": (0, r"\./dev COMMAND \[NAME\]"),
     "--help": (0, r"\./dev COMMAND \[NAME\]"),
     "--version": (0, r"^dev \(Bogzhami\) [\d.]+\n$"),
-    "chek": (2, r"no command chek\. Near it:\n  check\nusage: \./dev COMMAND \[NAME\] .*\n$"),
+    "chek": (2, r"no command chek\. Near it:\n  change\n  check\nusage: \./dev COMMAND \[NAME\] .*\n$"),
     "--jsn": (2, r"no command --jsn\. There are:\n(  \w+\n)*usage: \./dev COMMAND \[NAME\] .*\n$"),
     "check": (2, r"Which crate\?\n(  \w+\n)*  yaml_text\n"),
     "check yaml_txt": (2, r"no crate yaml_txt\. Near it:\n(  \w+\n)*  yaml_text\n"),
@@ -65,6 +66,10 @@ WRONG_NAMES = {
     "test vector": (2, r"no test vector\. Near it:\n  vectors\n$"),
     "edit": (2, r"Which edit\?\n(  [\w/]+\n)*  yaml_text/bom_of_two_bytes\n"),
     "edit bom_of_three_bytes": (2, r"Near it:\n(  [\w/]+\n)*  yaml_text/bom_of_two_bytes\n"),
+    "change": (2, r"^Which change\?\n(  \w+\n)*  escape\n"),
+    "change token": (2, r"no change token\. Near it:\n  token_field\n$"),
+    "change key_limt": (2, r"no change key_limt\. Near it:\n  key_limit\n$"),
+    "change escape more": (2, r"^There is no use for more\.\nusage: \./dev change NAME\n$"),
     "vector": (2, r"Which input\? Its bytes in hexadecimal"),
     "vector 6": (2, r"Which input\? Its bytes in hexadecimal"),
     "docs more": (2, r"^There is no use for more\.\nusage: \./dev docs\n$"),

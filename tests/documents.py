@@ -7,7 +7,8 @@ One line of output for each check; what is wrong is printed before it. The check
   any name. Paths are from the repository's root, or from the document's folder; those of definitions, proofs and code may be
   from any folder of a crate. What scripts write may be missing:
   bench/results.md, docs/speed.svg and what is in a folder `out`. The documents are README.md, CHANGELOG.md, CONTRIBUTING.md,
-  docs/, and the README files of tests/, bench/, uses/, ffi/, rust/, python/, of each crate and of its proofs.
+  docs/, bench/, packaging/DECISIONS.md, tests/changes.txt, and the README files of tests/, uses/, ffi/, rust/, python/, of each crate and of its
+  proofs.
 - written: what `./dev folders` writes is what it would write now: the README.md of each folder of proofs, and of each folder of
   code, definitions or shared scripts that has more than eight files; the picture in ARCHITECTURE.md, and the lists of what
   Headline.antt stands on; the laws in PROMISES.md; the clauses in RULES.md. The marks of such a part are there once.
@@ -35,6 +36,8 @@ One line of output for each check; what is wrong is printed before it. The check
 - folders: a folder with more than eight files has a README.md, but for the folders within proofs. Each file in such a table begins
   with a sentence.
 - picture: each module that the picture in ARCHITECTURE.md is to show is in it.
+- changes: each change of tests/changes.txt is in CONTRIBUTING.md with its title and its command, and no others are there; each has
+  something to watch. The files and folders that its lines begin with are there, and so is what they have in backticks.
 - headline: the order in which to read the files that Headline.antt stands on has all of them, and no others. The headline reaches
   none of what is read of a list of characters.
 - scripts: the table of tests/README.md has a line for each script of tests/, and no others.
@@ -50,6 +53,7 @@ import sys
 sys.path.insert(0, os.path.join(os.path.dirname(os.path.abspath(__file__)), "lib"))
 sys.dont_write_bytecode = True
 import headline
+from changes import LIST, changes, files_of
 from citing import statements
 from clauses import uncited
 from folders import MOST_FILES, long_folders, sentence, sources
@@ -60,8 +64,9 @@ from repository import TOP, edit_file, edit_name, found, read
 from rules import files_in, front_and_sections, rules, tests_in
 from written import stale, written
 
-DOCUMENTS = ["README.md", "CHANGELOG.md", "CONTRIBUTING.md", "docs/*.md", "tests/README.md", "bench/README.md", "uses/*/README.md",
-             "ffi/README.md", "rust/README.md", "python/README.md", "crates/*/README.md", "crates/*/proofs/README.md"]
+DOCUMENTS = ["README.md", "CHANGELOG.md", "CONTRIBUTING.md", "docs/*.md", "tests/README.md", "tests/changes.txt", "bench/*.md",
+             "uses/*/README.md", "ffi/README.md", "packaging/DECISIONS.md", "rust/README.md", "python/README.md",
+             "crates/*/README.md", "crates/*/proofs/README.md"]
 FOLDERS = ("bench", "crates", "docs", "ffi", "packaging", "python", "rust", "tests", "uses")
 ENDINGS = ("antt", "c", "css", "edit", "gz", "h", "html", "md", "py", "rs", "rt", "txt")
 OF_CRATES = ("antt", "rt")  # paths with these endings may be from a folder of a crate
@@ -404,6 +409,21 @@ def check_picture():
     return len(drawn()), [f"tests/lib/picture.py: {place} is not on the way" for place in unreached()]
 
 
+# CHANGES
+
+def check_changes():
+    told = dict(re.findall(r"^- \*\*(.*)\*\*, `\./dev change (\w+)`: ", read("CONTRIBUTING.md"), re.M))
+    there = {title: name for name, (title, _) in changes().items()}
+    wrong = [f"CONTRIBUTING.md and {LIST} differ in {title}: {name}" for title, name in sorted(set(told.items()) ^ set(there.items()))]
+    count = 0
+    for name, (_, lines) in changes().items():
+        files = files_of(lines)
+        count += len(files)
+        wrong += [f"{LIST}: {name}: {path} is not there" for path in files if not found(path)]
+        wrong += [] if "\nWatch\n  - " in lines else [f"{LIST}: {name}: nothing is to be watched"]
+    return count, wrong
+
+
 # HEADLINE
 
 def check_headline():
@@ -426,6 +446,7 @@ CHECKS = {"paths": check_paths, "rules": check_rules, "topics": check_topics,
           "laws and folders of proofs": check_proofs, "lemma files": check_lemmas, "edits": check_edits, "lines": check_lines,
           "functions of many parameters": check_parameters, "kits": check_kits, "versions": check_versions, "machines": check_machines, "crates of a user": check_crates,
           "documents that are written": check_written, "folders": check_folders, "lines of the picture": check_picture,
+          "files of changes": check_changes,
           "files that the headline stands on": check_headline, "scripts": check_scripts}
 
 
