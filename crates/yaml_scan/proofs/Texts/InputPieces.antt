@@ -20,7 +20,7 @@ use Rattle.yaml_scan.specs.SourceOf.{source_of}
 use Rattle.yaml_scan.specs.Unfinished.{GoesOnFrom}
 use Rattle.yaml_scan.proofs.Texts.SourceLocality.{begun_text_reads_same, no_shorter}
 use Rattle.yaml_scan.proofs.Texts.SourceOrder.{texts_keep_order}
-use Rattle.yaml_scan.proofs.Texts.UnfinishedInputs.{answers_begin, answers_end}
+use Rattle.yaml_scan.proofs.Texts.UnfinishedInputs.{answers_begin, answers_end, some_fault}
 
 -- BYTES
 drop-more : (n : ℕ) (a more : List ℕ) → n ≤ length a → drop n (a ++ more) ≡ drop n a ++ more
@@ -122,9 +122,6 @@ module _ (limit : ℕ) (setting : yaml_encoding_t) (given more : List ℕ) where
         answers_begin limit (so_far given true) (so_far (given ++ more) true) to_come j k (goes_on _ _ _ _ _ _ b) q,
         answers_end limit (so_far given true) (decoded_input setting (given ++ more)) to_come j k (goes_on _ _ _ _ _ _ b) q,
       )
-
-  some_fault : (x y : Fault) → Some x ≡ Some y → y ≡ x
-  some_fault x y q = cc
 
   unknown_law : (b c : Input) → Law (so_far given false) b c
   unknown_law b c =

@@ -36,6 +36,9 @@ in_time size f o y e = elim (cases_Bool (is_near size (place_of o))) [
   | inr q ↦ inr (record { same = rw q at e; far = ltb-false size (place_of o + 8) q })
 ]
 
+pub some_fault : (x y : Fault) → Some x ≡ Some y → y ≡ x
+some_fault x y q = cc
+
 long_enough : (size : ℕ) (r : Option Fault) (f : Fault) → r ≡ Some f → starts_near size r ≡ false → 8 ≤ size
 long_enough size None f e q = cc
 long_enough size (Some g) f e q = ltb-false size 8 q
@@ -153,9 +156,6 @@ module _ (limit : ℕ) (a b : Input) (refusal : Fault) (j : KeepsOrder a.source)
               (ap (option_map (λ (o : Offence). o.fault)) n.1 ∙ e, n.0, ap (before limit) n.0))
         ]
       where
-        some_fault : (x y : Fault) → Some x ≡ Some y → y ≡ x
-        some_fault x y q = cc
-
         offence_is : (x y : Offence) → Faults x ≡ Faults y → x ≡ y
         offence_is x y q = cc
 
@@ -166,9 +166,6 @@ module _ (limit : ℕ) (a b : Input) (refusal : Fault) (j : KeepsOrder a.source)
     unfolding course
     fault_in_time f e = go (starts_near a.source.size a.refusal) refl e
       where
-        some_fault : (x y : Fault) → Some x ≡ Some y → y ≡ x
-        some_fault x y q = cc
-
         go : (x : Bool) → starts_near a.source.size a.refusal ≡ x → (course_from x a.refusal (steps_of limit a j)).fault ≡ Some f
             → (f ≡ refusal) ⊎ SameEnd (course_from x a.refusal (steps_of limit a j)) (course_from (starts_near b.source.size b.refusal) b.refusal (steps_of limit b k)) f
         go true q e = inl (some_fault refusal f (sym g.unfinished ∙ e))
