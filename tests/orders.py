@@ -388,7 +388,7 @@ def try_progress(room):
     """The progress is shown as the log has it, and the log is kept."""
     log = os.path.join(room, "progress.log")
     text = "".join(line + "\n" for line, _ in LOG)
-    code = f'. "{TOP}/ffi/proving.sh"; : > "$1"; show_progress "$1" 10 0'
+    code = f'. "{TOP}/scripts/proving.sh"; : > "$1"; show_progress "$1" 10 0'
     done = subprocess.run(["bash", "-c", code, "bash", log], input=text, capture_output=True, text=True, timeout=30)
     wanted = [f"{shown}; 0 min, of about 10 min from nothing" for _, shown in LOG]
     with open(log, encoding="ascii") as kept:

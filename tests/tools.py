@@ -268,7 +268,7 @@ def try_scripts():
 def try_same_words(program):
     """./run and ./try refuse the words that the program refuses, and no others, and say the same of them. What the program says of
     words that are no text, and of words after --help, ./run does not come to say."""
-    code = '. "$1/ffi/words.sh"; usage() { echo usage; }; script=run; shift; check_command "$@"'
+    code = '. "$1/scripts/words.sh"; usage() { echo usage; }; script=run; shift; check_command "$@"'
     every = [words.split(b" ") if words else [] for words in (*WRONG, *(words.encode() for words in TAKEN))]
     wrong = []
     for words in every:

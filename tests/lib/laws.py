@@ -13,8 +13,8 @@ from repository import between, found, read
 
 PROMISES = "docs/PROMISES.md"
 CRATES = ["yaml_text", "yaml_lexeme", "yaml_scan", "yaml_c", "yaml_listing", "yamltok", "lexeme_tests", "listing_tests",
-          "testbench", "unit_tests", "workloads"]
-OF_TESTS = ["lexeme_tests", "listing_tests", "testbench", "unit_tests", "workloads"]  # they promise nothing to others
+          "testbench", "scan_tests", "workloads"]
+OF_TESTS = ["lexeme_tests", "listing_tests", "testbench", "scan_tests", "workloads"]  # they promise nothing to others
 FUNCTION = re.compile(r'((?:^ *///.*\n)*)((?:^ *#\[.*\n)*)^ *pub (?:unsafe )?(?:extern "C" )?fn (\w+)', re.M)
 IMPORT = re.compile(r"^use Rattle\.(\w+)\.proofs\.([\w.]+)", re.M)
 USING = re.compile(r"crate::proofs::((?:\w+::)*\w+)::\w+")

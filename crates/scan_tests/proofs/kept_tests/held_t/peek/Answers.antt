@@ -5,7 +5,7 @@ use Rattle.yaml_scan.specs.Headline.{Calls}
 use Rattle.yaml_scan.specs.Parser.{Parser}
 use Rattle.yaml_scan.specs.Session.{Answer}
 use Rattle.yaml_scan.specs.Session.Call.{PEEK}
-use Rattle.unit_tests.proofs.kept_tests.held_t.peek.Goals as goal
+use Rattle.scan_tests.proofs.kept_tests.held_t.peek.Goals as goal
 
 -- a call leaves the input as it is
 same_input : (p q : Parser) (a : Answer) → Calls decoded_input PEEK p a q → q.input ≡ p.input

@@ -1,7 +1,7 @@
 use Rattle.std.proofs.Common.{◌≡◌}
 use Rattle.yaml_scan.specs.Parser.{Parser}
 use Rattle.yaml_scan.specs.inside.Kept.{IsKept}
-use Rattle.unit_tests.proofs.kept_tests.expect_each_told.Given as goal
+use Rattle.scan_tests.proofs.kept_tests.tells_at.Given as goal
 
 abbrev pub invariant-calls : goal.invariant-calls
-invariant-calls g l = (p : Parser) × (p.input ≡ l.held.input.now) × IsKept p l.held.kept
+invariant-calls l = (p : Parser) × (p.input ≡ l.held.input.now) × IsKept p l.held.kept

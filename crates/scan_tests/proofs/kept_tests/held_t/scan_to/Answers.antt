@@ -1,6 +1,6 @@
 use Rattle.std.proofs.Common.{◌∙◌, inl, inr}
 use Rattle.std.proofs.lemmas.Bool.{cases_Bool}
-use Rattle.unit_tests.proofs.kept_tests.held_t.scan_to.Goals as goal
+use Rattle.scan_tests.proofs.kept_tests.held_t.scan_to.Goals as goal
 
 pub returns : goal.returns
 returns c = let r = c.requires in let e = c.yaml_kept_scan_to.ensures in elim (cases_Bool c.yaml_kept_scan_to.result) [

@@ -4,7 +4,7 @@
 
 # The checksum of all that is proved and built, in that folder. Documents are left out: nothing is built of them.
 sum_of_sources() {
-  (cd "$1" && find HANDLES VERSION crates crates.txt ffi -name out -prune -o -type f ! -name '*.md' -print0 | LC_ALL=C sort -z \
+  (cd "$1" && find HANDLES VERSION crates crates.txt ffi scripts -name out -prune -o -type f ! -name '*.md' -print0 | LC_ALL=C sort -z \
     | xargs -0 sha256sum | sha256sum | cut -d ' ' -f 1)
 }
 
