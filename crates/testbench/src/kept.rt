@@ -56,6 +56,17 @@ fn end_count(kept: &yaml_kept_parser_t, count: &mut count_t) {
     }
 }
 
+/// Shows the next token, if that is asked for. Returns whether there is a fault.
+fn shows_fault(held: &mut held_t, peeks: bool) -> bool
+    requires { (p : Parser) × (p.input ≡ held.old.input.now) × IsKept p held.old.kept }
+    ensures { (p : Parser) × (p.input ≡ held.new.input.now) × IsKept p held.new.kept }
+{
+    if !peeks {
+        return false;
+    }
+    held.peek()
+}
+
 /// Shows the next token, if that is asked for, and then has tokens go to a sink with room for so many. Keeps the fault,
 /// if one comes.
 fn give_some(held: &mut held_t, tally: &mut tally_t, room: u128, peeks: bool)
@@ -63,7 +74,9 @@ fn give_some(held: &mut held_t, tally: &mut tally_t, room: u128, peeks: bool)
     ensures { (p : Parser) × (p.input ≡ held.new.input.now) × IsKept p held.new.kept }
 {
     tally.room = room;
-    if peeks && held.peek() || held.scan_to(tally) {
+    let shown = shows_fault(held, peeks);
+    let given = held.scan_to(tally);
+    if shown || given {
         end_count(&held.kept, &mut tally.count);
     }
 }

@@ -20,7 +20,7 @@
 //!
 //! With `count WAY`, `count WAY LIMIT` or `count WAY LIMIT ENC` the tokens of the input are counted, up to the stream
 //! end or the fault. The answer is how many there are, and the kind of the fault, or `-` for none. After the input is
-//! read, only the calls and the answer take memory. WAY is one of these:
+//! read, only the calls, the lists of calls and the answer take memory. WAY is one of these:
 //!
 //! - `scans`; `next` (calls of `yaml_scan_next`); `skips` (a peek and a skip for each token);
 //! - `lists` (calls of `yaml_run`, each with many scans); `skip-lists` (each with many peeks and skips); `longer-lists`
