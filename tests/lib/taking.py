@@ -102,8 +102,7 @@ WAYS = [
 # What the other public calls give.
 WITHOUT_TOKENS = {
     "a parser, whose tokens come by the calls of one": [
-        "yaml_parser_t::new", "yaml_parser_t::with_key_limit", "yaml_kept_parser_t::new", "yaml_kept_parser_t::take",
-        "yaml_kept_parser_t::keep", "bogzhami_open", "bogzhami_close",
+        "yaml_parser_t::new", "yaml_parser_t::with_key_limit", "yaml_kept_parser_t::new", "bogzhami_open", "bogzhami_close",
     ],
     "what a session shows": [
         "yaml_parser_fault", "yaml_parser_has_token", "yaml_parser_mark", "yaml_parser_queued", "yaml_kept_parser_t::mark",
@@ -113,7 +112,9 @@ WITHOUT_TOKENS = {
     "lexemes": ["yaml_gap", "yaml_lexeme_at", "yaml_lexeme_kind"],
     "text and places": [
         "yaml_decode", "yaml_decode_front", "yaml_encoding_of", "yaml_index_from_end", "yaml_is_place", "yaml_mark_at", "decode",
+        "bogzhami_place",
     ],
+    "where a token's texts are": ["bogzhami_text", "bogzhami_second_text"],
     "classes of characters": [
         "AS_DIGIT", "AS_HEX", "IS_ALPHA", "IS_ASCII", "IS_BLANK", "IS_BLANKZ", "IS_BOM", "IS_BREAK", "IS_BREAKZ", "IS_CRLF",
         "IS_DIGIT", "IS_HEX", "IS_PRINTABLE", "IS_SPACE", "IS_TAB", "IS_Z", "WIDTH",
