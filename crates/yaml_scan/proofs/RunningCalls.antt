@@ -20,7 +20,6 @@ pub mod ScansToTheEnd
 -- A sink is given all tokens of an input, or those before its fault, or those that some of the steps settle.
 pub mod GivenToEnd
 -- A parser that was kept without its input goes on as if it had kept it.
-pub mod KeptParser
 -- What goes straight to a sink that has room for it leaves the scanner that scans of these tokens leave.
 pub mod SentTokens
 -- Several scans at once: the tokens that a sink was given are those that as many scans return.

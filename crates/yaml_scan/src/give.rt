@@ -30,8 +30,9 @@ ghost use Rattle.yaml_scan.specs.ParserCalls.{IsRefusedAtStart};
 
 use crate::groups::{group_t, lead_t, lead_token};
 use crate::keys::KEY_LIMIT;
-use crate::parser::{begin, new_state, start, take_head, yaml_parser_t, yaml_scan_next};
-use crate::scanner::state_t;
+use crate::kept::begin;
+use crate::parser::{yaml_parser_t, yaml_scan_next};
+use crate::scanner::{new_state, state_t};
 use crate::session::is_last;
 use crate::settled::is_settled;
 use crate::sink::{count_of, give, give_group, has_room_for, said_len, yaml_token_sink_t};
@@ -58,7 +59,7 @@ fn send_or_settle<S: yaml_token_sink_t>(
     ensures within { IfOk result (λ _. S.within sink.old → S.within sink.new) }
 {
     let done = state.layout.queue.done;
-    'steps: while !is_settled(text, state) {
+    'steps: while !is_settled(state) {
         step_to::<true, S>(text, state, sink)?;
         if state.layout.queue.done > done {
             return Ok(false);
@@ -70,9 +71,10 @@ fn send_or_settle<S: yaml_token_sink_t>(
 /// Whether all tokens of the group at the head of the queue are settled, and the sink has room for them. The stream end
 /// is not among them.
 #[inline(always)]
-fn is_ready<S: yaml_token_sink_t>(_text: &yaml_text_t, state: &state_t, sink: &S) -> bool
-    requires runs { IsRunning (scanner_of _text.now state.now) }
-    ensures { result ≡ true → (y : group_t) × IsReadyGroup (scanner_of _text.now state.now) y
+fn is_ready<S: yaml_token_sink_t>(state: &state_t, sink: &S) -> bool
+    ghost text: { Text }
+    requires runs { IsRunning (scanner_of text state.now) }
+    ensures { result ≡ true → (y : group_t) × IsReadyGroup (scanner_of text state.now) y
         × (S.within sink.now → (after : S) → S.took sink.now (group_tokens y) after → S.within after) }
 {
     let queue = &state.layout.queue;
@@ -88,13 +90,14 @@ fn is_ready<S: yaml_token_sink_t>(_text: &yaml_text_t, state: &state_t, sink: &S
 
 /// Takes the group at the head of the queue.
 #[inline(always)]
-fn take_group(_text: &yaml_text_t, state: &mut state_t) -> group_t
-    requires runs { IsRunning (scanner_of _text.now state.old) }
-    requires still_open { IsOpen (scanner_of _text.now state.old) }
-    requires ready { (y : group_t) × IsReadyGroup (scanner_of _text.now state.old) y }
-    requires words { HaveWords (told_all (scanner_of _text.now state.old)) }
-    ensures head { groups_in (scanner_of _text.now state.old) ≡ result ∷ groups_in (scanner_of _text.now state.new) }
-    ensures drains { Drains (scanner_of _text.now state.old) (scanner_of _text.now state.new) (group_tokens result) }
+fn take_group(state: &mut state_t) -> group_t
+    ghost text: { Text }
+    requires runs { IsRunning (scanner_of text state.old) }
+    requires still_open { IsOpen (scanner_of text state.old) }
+    requires ready { (y : group_t) × IsReadyGroup (scanner_of text state.old) y }
+    requires words { HaveWords (told_all (scanner_of text state.old)) }
+    ensures head { groups_in (scanner_of text state.old) ≡ result ∷ groups_in (scanner_of text state.new) }
+    ensures drains { Drains (scanner_of text state.old) (scanner_of text state.new) (group_tokens result) }
     ensures words { HasWords (token_of result.token).token_data }
 {
     let group = state.layout.queue.groups.pop_front().unwrap();
@@ -106,25 +109,22 @@ fn take_group(_text: &yaml_text_t, state: &mut state_t) -> group_t
 /// Takes the group at the head of the queue, and gives all of it to a sink. A token that is a group alone goes a way of
 /// its own, so that it is moved once.
 #[inline(always)]
-fn give_head<S: yaml_token_sink_t>(
-    text: &yaml_text_t,
-    state: &mut state_t,
-    sink: &mut S,
-) -> Result<(), stop_t>
-    requires runs { IsRunning (scanner_of text.now state.old) }
-    requires still_open { IsOpen (scanner_of text.now state.old) }
-    requires ready { (y : group_t) × IsReadyGroup (scanner_of text.now state.old) y }
-    requires words { HaveWords (told_all (scanner_of text.now state.old)) }
+fn give_ready<S: yaml_token_sink_t>(state: &mut state_t, sink: &mut S) -> Result<(), stop_t>
+    ghost text: { Text }
+    requires runs { IsRunning (scanner_of text state.old) }
+    requires still_open { IsOpen (scanner_of text state.old) }
+    requires ready { (y : group_t) × IsReadyGroup (scanner_of text state.old) y }
+    requires words { HaveWords (told_all (scanner_of text state.old)) }
     ensures { (y : group_t)
-        × (groups_in (scanner_of text.now state.old) ≡ y ∷ groups_in (scanner_of text.now state.new))
-        × Drains (scanner_of text.now state.old) (scanner_of text.now state.new) (group_tokens y)
+        × (groups_in (scanner_of text state.old) ≡ y ∷ groups_in (scanner_of text state.new))
+        × Drains (scanner_of text state.old) (scanner_of text state.new) (group_tokens y)
         × Gives (λ tokens. S.took sink.old tokens sink.new) S.may_refuse (group_tokens y) result }
 {
     if state.layout.queue.is_bare() {
-        let group = take_group(text, state);
+        let group = take_group(state);
         give(sink, group.token)
     } else {
-        let group = take_group(text, state);
+        let group = take_group(state);
         give_group(sink, group)
     }
 }
@@ -132,12 +132,13 @@ fn give_head<S: yaml_token_sink_t>(
 /// Gives groups from the head of the queue to a sink, while all tokens of the group there are settled and the sink has
 /// room for them. Returns whether it gave any.
 #[inline(always)]
-fn drain<S: yaml_token_sink_t>(text: &yaml_text_t, state: &mut state_t, sink: &mut S) -> bool
-    requires runs { IsRunning (scanner_of text.now state.old) }
-    requires still_open { IsOpen (scanner_of text.now state.old) }
-    requires words { HaveWords (told_all (scanner_of text.now state.old)) }
+fn drain<S: yaml_token_sink_t>(state: &mut state_t, sink: &mut S) -> bool
+    ghost text: { Text }
+    requires runs { IsRunning (scanner_of text state.old) }
+    requires still_open { IsOpen (scanner_of text state.old) }
+    requires words { HaveWords (told_all (scanner_of text state.old)) }
     requires takes { S.may_refuse → ⊥ }
-    ensures drains { DrainsOrStays (scanner_of text.now state.old) (scanner_of text.now state.new)
+    ensures drains { DrainsOrStays (scanner_of text state.old) (scanner_of text state.new)
         (λ tokens. S.took sink.old tokens sink.new) result }
     ensures within { S.within sink.old → S.within sink.new }
 {
@@ -145,8 +146,8 @@ fn drain<S: yaml_token_sink_t>(text: &yaml_text_t, state: &mut state_t, sink: &m
         return false;
     }
     let mut any = false;
-    'groups: while is_ready(text, state, sink) {
-        match give_head(text, state, sink) {
+    'groups: while is_ready(state, sink) {
+        match give_ready(state, sink) {
             Ok(_) => any = true,
             Err(_) => unreachable!(),
         }
@@ -174,27 +175,7 @@ pub(crate) fn send_on<S: yaml_token_sink_t>(
     if !send_or_settle(text, state, sink)? {
         return Ok(false);
     }
-    Ok(!drain(text, state, sink))
-}
-
-/// Makes the first step, if it was not made, and then has tokens go to the sink, or makes the steps that the next token
-/// needs. Returns whether no token went there.
-#[inline(always)]
-fn send<'a, S: yaml_token_sink_t>(
-    text: &mut yaml_text_t<'a>,
-    state: &mut state_t,
-    input: &'a [u8],
-    setting: yaml_encoding_t,
-    sink: &mut S,
-) -> Result<bool, stop_t>
-    requires ready { IsReady setting input.now (scanner_of text.old state.old) }
-    requires takes { S.may_refuse → ⊥ }
-    ensures sends { HasSentOrSettled setting input.now (scanner_of text.old state.old) (scanner_of text.new state.new)
-        (λ tokens. S.took sink.old tokens sink.new) S.may_refuse result }
-    ensures within { IfOk result (λ _. S.within sink.old → S.within sink.new) }
-{
-    start(text, state, input, setting)?;
-    send_on(text, state, sink)
+    Ok(!drain(state, sink))
 }
 
 /// A token that is returned. This is called and not inlined, since else what goes to the sink is put together a few
@@ -251,32 +232,20 @@ pub fn yaml_scan_next_to<S: yaml_token_sink_t>(
     ensures over { ReadsNone parser.old parser.new (λ tokens. S.took sink.old tokens sink.new) result }
     ensures within { S.within sink.old → S.within sink.new }
 {
-    if parser.session.over || parser.session.peeked {
+    if parser.scanner.session.over || parser.scanner.session.peeked {
         return match yaml_scan_next(parser) {
             Ok((token, _)) => Ok(Some(token)),
             Err(fault) => Err(fault),
         };
     }
-    let settled = match send(
-        &mut parser.text,
-        &mut parser.state,
-        parser.input,
-        parser.setting,
-        sink,
-    ) {
-        Ok(settled) => settled,
-        Err(stop) => {
-            let fault = fault_at(stop, &parser.state.fault);
-            parser.session.end(&mut parser.state.fault, fault);
-            return Err(fault);
+    match parser.scanner.send(parser.input, sink) {
+        Ok(false) => Ok(None),
+        Ok(true) => {
+            let token = parser.scanner.session.take();
+            Ok(put_or_return(sink, token))
         }
-    };
-    if !settled {
-        return Ok(None);
+        Err(stop) => Err(parser.scanner.session.end(stop)),
     }
-    let token = take_head(&parser.text, &mut parser.state);
-    parser.session.pass(&token);
-    Ok(put_or_return(sink, token))
 }
 
 /// Makes steps until the head of the queue is the next token. The groups of steps that need not wait go to the sink.
@@ -294,7 +263,7 @@ fn settle_to<S: yaml_token_sink_t>(
         (λ tokens. S.took sink.old tokens sink.new)
         S.may_refuse) }
 {
-    'steps: while !is_settled(text, state) {
+    'steps: while !is_settled(state) {
         step_to::<true, S>(text, state, sink)?;
     }
     Ok(())
@@ -315,14 +284,14 @@ fn give_taken<S: yaml_token_sink_t>(sink: &mut S, token: yaml_token_t) -> Result
 /// is taken gives it by itself, so that the compiler moves it once.
 #[inline(always)]
 pub(crate) fn give_next<S: yaml_token_sink_t>(
-    _text: &yaml_text_t,
     state: &mut state_t,
     sink: &mut S,
 ) -> Result<bool, stop_t>
-    requires runs { IsRunning (scanner_of _text.now state.old) }
-    requires settled { state.old.taken < length (before state.old.limit (history (scanner_of _text.now state.old))) }
-    requires words { (t : Scanner) (x : Token) → Pops (scanner_of _text.now state.old) t x → HasWords x.token_data }
-    ensures { (x : Token) × Pops (scanner_of _text.now state.old) (scanner_of _text.now state.new) x
+    ghost text: { Text }
+    requires runs { IsRunning (scanner_of text state.old) }
+    requires settled { state.old.taken < length (before state.old.limit (history (scanner_of text state.old))) }
+    requires words { (t : Scanner) (x : Token) → Pops (scanner_of text state.old) t x → HasWords x.token_data }
+    ensures { (x : Token) × Pops (scanner_of text state.old) (scanner_of text state.new) x
         × GivesNext (λ tokens. S.took sink.old tokens sink.new) S.may_refuse x result }
 {
     state.taken += 1;
@@ -355,7 +324,7 @@ fn give_rest<S: yaml_token_sink_t>(
     let mut last = false;
     'tokens: while !last {
         settle_to(text, state, sink)?;
-        last = match give_next(text, state, sink) {
+        last = match give_next(state, sink) {
             Ok(last) => last,
             Err(stop) => return Err(stopped(stop)),
         };
@@ -374,8 +343,8 @@ fn give_all<S: yaml_token_sink_t>(
     ensures { GivesAll (λ tokens. S.took sink.old tokens sink.new) S.may_refuse state.old.limit setting input.now
         state.new.fault result }
 {
-    let text = begin(state, input, setting)?;
-    give_rest(&text, state, sink)
+    let kept = begin(state, input, setting)?;
+    give_rest(&kept.view(input), state, sink)
 }
 
 /// Gives all tokens of an input to a sink, in order: to STREAM-END, or those before its fault, and returns the fault.

@@ -1,44 +1,87 @@
-//! A parser whose input was let go, and taken up again.
-ghost use Rattle.std.specs.Prelude.{◌≡◌, Some, true, false, [], List, option_map, IfSome};
+//! A scanner without an input: all that is kept between two calls, each of which is given the same input. It is public
+//! as `yaml_kept_parser_t`, what is kept of a parser whose input was let go.
+ghost use Rattle.std.specs.Prelude.{◌≡◌, ◌≤◌, ◌×◌, Some, Ok, true, false, [], List, ℕ, option_map, MatchResult};
 ghost use Rattle.yaml_text.specs.Decode.{front};
-ghost use Rattle.yaml_text.specs.Text.{Text};
-ghost use Rattle.yaml_text.specs.Kept.{IsKeptOf, KeptText};
-ghost use Rattle.yaml_scan.specs.ParserCalls.{course_read};
-ghost use Rattle.yaml_scan.specs.Sessions.{session_reach};
-ghost use Rattle.yaml_scan.specs.Parser.{Parser};
-ghost use Rattle.yaml_scan.specs.inside.Kept.{IsKept};
-ghost use Rattle.yaml_scan.specs.inside.KeptEnds.{GivesKept, IsLent, ShowsKept, StartsKept, ended_by};
-ghost use Rattle.yaml_scan.specs.inside.KeptParts.{HasBegun};
-ghost use Rattle.yaml_scan.specs.inside.Stop.{fault_at};
 ghost use Rattle.yaml_text.specs.Fault.{Fault, fault_of};
+ghost use Rattle.yaml_text.specs.Kept.{IsKeptOf};
+ghost use Rattle.yaml_text.specs.Text.{Text};
 ghost use Rattle.yaml_text.specs.Token.{Token, token_of};
+ghost use Rattle.yaml_text.specs.declared.fault.yaml_fault_t.{yaml_fault_t as code_fault_t};
 ghost use Rattle.yaml_scan.specs.Decoded.{decoded_input};
 ghost use Rattle.yaml_scan.specs.Headline.{Calls};
 ghost use Rattle.yaml_scan.specs.KeptCalls.{GivesMore, GivesToFault, HasNoMoreRoom, token_peeked};
-ghost use Rattle.yaml_scan.specs.ParserCalls.{token_shown};
+ghost use Rattle.yaml_scan.specs.KeyLimits.{most_key_limit};
+ghost use Rattle.yaml_scan.specs.Parser.{Parser};
+ghost use Rattle.yaml_scan.specs.ParserCalls.{course_read, scan_result, token_shown};
 ghost use Rattle.yaml_scan.specs.Scanned.{GoesOnBy};
 ghost use Rattle.yaml_scan.specs.Session.Call.{SCAN, PEEK};
-ghost use Rattle.yaml_scan.specs.Session.Answer.{PEEKED};
+ghost use Rattle.yaml_scan.specs.Session.Answer.{FAULT, PEEKED};
+ghost use Rattle.yaml_scan.specs.Sessions.{new_session, session_reach};
+ghost use Rattle.yaml_scan.specs.inside.Kept.{IsKept, IsScannerOf, scan_of};
+ghost use Rattle.yaml_scan.specs.inside.KeptEnds.{Gives, Sends, Settles, Starts};
+ghost use Rattle.yaml_scan.specs.inside.KeptParts.{EndsNow, ShowsTo};
+ghost use Rattle.yaml_scan.specs.inside.Ready.{IsNew, Begins, IsEnded, IsShort, IsStopped, parser_of};
+ghost use Rattle.yaml_scan.specs.inside.Scanner.{scanner_of};
+ghost use Rattle.yaml_scan.specs.inside.Stop.{fault_at};
 
-use crate::parser::{begin, yaml_parser_t};
-use crate::room::{give_while_room, show_next};
-use crate::scanner::state_t;
+use crate::batch::{give_while_room, send_or_wait};
+use crate::near::{near_of, near_start};
+use crate::parser::yaml_parser_t;
+use crate::scanner::{new_state, state_t};
 use crate::session::session_t;
+use crate::settled::settle_head;
 use crate::sink::yaml_token_sink_t;
-use crate::stop::{fault_at, stop_t};
-use yaml_text::{
-    yaml_encoding_t, yaml_fault_t, yaml_kept_text_t, yaml_mark_t, yaml_text_t, yaml_token_t,
-};
+use crate::stop::stop_t;
+use std::alloc::Global;
+use yaml_text::{yaml_encoding_t, yaml_fault_t, yaml_kept_text_t, yaml_mark_t, yaml_token_t};
 
-/// What is kept of a parser when its input is let go: all that it holds, and of its text what the input does not have.
+/// A scanner without an input: what is kept of its text, and its session. It holds all that a parser of that input
+/// holds, but the input.
 #[derive(Drop)]
 pub struct yaml_kept_parser_t {
+    pub(crate) setting: yaml_encoding_t,
+    /// What is kept of its text. Before the first step that is the text of no characters.
+    pub(crate) text: yaml_kept_text_t,
+    pub(crate) session: session_t,
+}
+
+/// Decodes the input, and makes the first step. Returns what is kept of the text.
+#[inline(never)]
+pub(crate) fn begin(
+    state: &mut state_t,
+    input: &[u8],
     setting: yaml_encoding_t,
-    /// What is kept of its text. It is `None` only while a call has the text.
-    text: Option<yaml_kept_text_t>,
-    state: state_t,
-    session: session_t,
-    lead: yaml_token_t,
+) -> Result<yaml_kept_text_t, stop_t>
+    requires { (text : Text) → IsNew (scanner_of text state.old) }
+    ensures { (text : Text) → MatchResult result
+        (λ kept. IsKeptOf (front setting input.now) input.now kept
+        × Begins setting input.now (scanner_of text state.old) (scanner_of (front setting input.now) state.new)) (λ s.
+        (IsShort setting input.now (scanner_of text state.old) (fault_at s state.new.fault)
+        ⊎ IsEnded setting input.now (scanner_of text state.old) (scanner_of text state.new)
+        (fault_at s state.new.fault))
+        × IsStopped setting input.now (scanner_of text state.old) (scanner_of text state.new)) }
+{
+    let (kept, refusal) = match yaml_kept_text_t::decode(state.alloc, input, setting) {
+        Ok(front) => front,
+        Err(fault) => {
+            state.fault = Some(fault);
+            return Err(stop_t::FAULT);
+        }
+    };
+    let (encoding, len, near) = {
+        let text = kept.view(input);
+        (text.encoding(), text.bytes().len(), near_of(&text, refusal))
+    };
+    if let Some(fault) = near_start(refusal, near) {
+        state.fault = Some(fault);
+        return Err(stop_t::FAULT);
+    }
+    let queue = &mut state.layout.queue;
+    queue.put_stream_start(encoding, len)?;
+    state.fault = refusal;
+    state.near = near;
+    state.made = 1;
+    Ok(kept)
 }
 
 impl yaml_kept_parser_t {
@@ -46,21 +89,30 @@ impl yaml_kept_parser_t {
     pub fn new(parser: yaml_parser_t) -> yaml_kept_parser_t
         ensures { IsKept parser.entry result }
     {
-        let yaml_parser_t {
-            input,
-            setting,
-            text,
-            state,
-            session,
-            empty: _,
-            lead,
-        } = parser;
+        parser.scanner
+    }
+
+    /// A scanner that has read nothing, with a key limit in bytes.
+    pub(crate) fn with_key_limit(
+        alloc: Global,
+        setting: yaml_encoding_t,
+        limit: u32,
+    ) -> yaml_kept_parser_t
+        requires { limit ≤ most_key_limit }
+        ensures is { (input : List ℕ) → IsScannerOf input result }
+        ensures new { (input : List ℕ) → parser_of (scan_of input result)
+            ≡ record { input = input; setting = setting; limit = limit; session = new_session } }
+    {
         yaml_kept_parser_t {
             setting,
-            text: Some(yaml_kept_text_t::new(text, input, setting)),
-            state,
-            session,
-            lead,
+            text: yaml_kept_text_t::empty(),
+            session: session_t {
+                state: new_state(alloc, limit as u64),
+                lead: yaml_token_t::empty(),
+                peeked: false,
+                over: false,
+                failed: false,
+            },
         }
     }
 
@@ -68,7 +120,7 @@ impl yaml_kept_parser_t {
     pub fn mark(&self) -> yaml_mark_t
         ensures { (p : Parser) → IsKept p self.now → result ≡ session_reach (course_read p) p.session }
     {
-        self.state.reach
+        self.session.state.reach
     }
 
     /// Whether the session is over: the stream end was taken, or a fault was returned.
@@ -82,209 +134,118 @@ impl yaml_kept_parser_t {
     pub fn fault(&self) -> Option<&yaml_fault_t>
         ensures { (p : Parser) → IsKept p self.now → option_map (λ f. fault_of f.now) result ≡ p.session.fault }
     {
-        if !self.session.failed {
-            return None;
-        }
-        match &self.state.fault {
-            Some(fault) => Some(fault),
-            None => None,
-        }
+        self.session.fault()
     }
 
     /// The token that was shown and was not taken since, if one was.
     pub fn peeked(&self) -> Option<&yaml_token_t>
         ensures { (p : Parser) → IsKept p self.now → option_map (λ t. token_of t.now) result ≡ token_peeked p }
     {
-        if !self.session.peeked {
-            None
-        } else if self.state.layout.queue.has_lead() {
-            Some(&self.lead)
-        } else {
-            match self.state.layout.queue.groups.front() {
-                Some(head) => Some(&head.token),
-                None => None,
+        self.session.shown()
+    }
+
+    /// Makes the first step over the input, if it was not made.
+    #[inline(always)]
+    fn start(&mut self, input: &[u8]) -> Result<(), stop_t>
+        requires is { IsScannerOf input.now self.old }
+        requires still_open { self.old.session.over ≡ false }
+        ensures { Starts input.now self.old self.new result }
+    {
+        if self.session.state.made > 0 {
+            return Ok(());
+        }
+        self.text = begin(&mut self.session.state, input, self.setting)?;
+        Ok(())
+    }
+
+    /// Makes the steps that the next token needs: none if it was peeked.
+    #[inline(always)]
+    fn settle(&mut self, input: &[u8]) -> Result<(), stop_t>
+        requires is { IsScannerOf input.now self.old }
+        requires still_open { self.old.session.over ≡ false }
+        ensures { Settles input.now self.old self.new result }
+    {
+        if self.session.peeked {
+            return Ok(());
+        }
+        self.start(input)?;
+        settle_head(&self.text.view(input), &mut self.session.state)
+    }
+
+    /// Takes the next token; after the end of the session the empty one. Returns the fault that ends the session, once.
+    #[inline(always)]
+    pub(crate) fn scan(&mut self, input: &[u8]) -> Result<yaml_token_t, yaml_fault_t>
+        requires { IsScannerOf input.now self.old }
+        ensures is { IsScannerOf input.now self.new }
+        ensures answers { Calls decoded_input SCAN (parser_of (scan_of input.now self.old)) (scan_result result)
+            (parser_of (scan_of input.now self.new)) }
+    {
+        if self.session.over {
+            return Ok(yaml_token_t::empty());
+        }
+        match self.settle(input) {
+            Ok(_) => Ok(self.session.take()),
+            Err(stop) => Err(self.session.end(stop)),
+        }
+    }
+
+    /// Makes the steps that the next token needs, and shows it, unless the session is over. `false` if the session ended
+    /// with a fault instead.
+    pub(crate) fn show(&mut self, input: &[u8]) -> bool
+        requires { IsScannerOf input.now self.old }
+        ensures is { IsScannerOf input.now self.new }
+        ensures shows { result ≡ true → self.old.session.over ≡ false
+            → ShowsTo (scan_of input.now self.old) (scan_of input.now self.new) }
+        ensures over { self.old.session.over ≡ true → (result ≡ true) × (self.new ≡ self.old) }
+        ensures fault { result ≡ false → EndsNow (scan_of input.now self.old) (scan_of input.now self.new) }
+    {
+        if self.session.over {
+            return true;
+        }
+        match self.settle(input) {
+            Ok(_) => {
+                self.session.show();
+                true
+            }
+            Err(stop) => {
+                let _ = self.session.end(stop);
+                false
             }
         }
     }
-}
 
-/// The text that was kept, which has bytes of its own. They go with it, and nothing is left here. A build clears
-/// the stack of what a function makes at the function's beginning, also where a rare branch alone makes it. So this
-/// branch is a function of its own, as others here are.
-#[inline(always)]
-fn lend_own<'a>(kept: &mut Option<yaml_kept_text_t>, input: &'a [u8]) -> yaml_text_t<'a>
-    requires { (x : Text) × (k : KeptText) × (kept.old ≡ Some k) × IsKeptOf x input.now k }
-    ensures text { (x : Text) (k : KeptText) → kept.old ≡ Some k → IsKeptOf x input.now k → result ≡ x }
-    ensures lent { (x : Text) (k : KeptText) → kept.old ≡ Some k → IsKeptOf x input.now k
-        → IsLent result input.now kept.new }
-{
-    match kept.take() {
-        Some(text) => text.text(input),
-        None => unreachable!(),
+    /// Makes the first step, if it was not made, and then has tokens go to the sink, or makes the steps that the next
+    /// token needs. Returns whether no token went there.
+    #[inline(always)]
+    pub(crate) fn send<S: yaml_token_sink_t>(
+        &mut self,
+        input: &[u8],
+        sink: &mut S,
+    ) -> Result<bool, stop_t>
+        requires is { IsScannerOf input.now self.old }
+        requires still_open { self.old.session.over ≡ false }
+        requires takes { S.may_refuse → ⊥ }
+        ensures sends { Sends input.now self.old self.new (λ tokens. S.took sink.old tokens sink.new) result }
+        ensures within { S.within sink.old → S.within sink.new }
+    {
+        self.start(input)?;
+        send_or_wait(&self.text.view(input), &mut self.session, sink)
     }
-}
 
-/// The text that was kept, over the same input. If it has bytes of its own they go with it, and nothing is left here.
-#[inline(always)]
-fn lend<'a>(kept: &mut Option<yaml_kept_text_t>, input: &'a [u8]) -> yaml_text_t<'a>
-    requires { (x : Text) × (k : KeptText) × (kept.old ≡ Some k) × IsKeptOf x input.now k }
-    ensures text { (x : Text) (k : KeptText) → kept.old ≡ Some k → IsKeptOf x input.now k → result ≡ x }
-    ensures lent { (x : Text) (k : KeptText) → kept.old ≡ Some k → IsKeptOf x input.now k
-        → IsLent result input.now kept.new }
-{
-    if let Some(text) = kept {
-        if let Some(text) = text.borrowed(input) {
-            return text;
-        }
+    /// Gives the next tokens to a sink that has room for one, until the stream end was given or it has no room for the
+    /// next token.
+    #[inline(always)]
+    fn give<S: yaml_token_sink_t>(&mut self, input: &[u8], sink: &mut S) -> Result<(), stop_t>
+        requires is { IsScannerOf input.now self.old }
+        requires still_open { self.old.session.over ≡ false }
+        requires takes { S.may_refuse → ⊥ }
+        ensures gives { Gives input.now self.old self.new (λ tokens. S.took sink.old tokens sink.new)
+            (S.lacks sink.new) result }
+        ensures within { S.within sink.old → S.within sink.new }
+    {
+        self.start(input)?;
+        give_while_room(&self.text.view(input), &mut self.session, sink)
     }
-    lend_own(kept, input)
-}
-
-/// Keeps what is needed of a text for the next call.
-#[inline(always)]
-fn keep_text(
-    kept: &mut Option<yaml_kept_text_t>,
-    text: yaml_text_t,
-    input: &[u8],
-    setting: yaml_encoding_t,
-)
-    ensures { (k : KeptText) × (kept.new ≡ Some k)
-        × (text.entry ≡ front setting input.now → IsKeptOf text.entry input.now k) }
-{
-    *kept = Some(yaml_kept_text_t::new(text, input, setting));
-}
-
-/// Takes a text back that was lent.
-#[inline(always)]
-fn give_back(
-    kept: &mut Option<yaml_kept_text_t>,
-    text: yaml_text_t,
-    input: &[u8],
-    setting: yaml_encoding_t,
-)
-    ensures { IsLent text.entry input.now kept.old → (k : KeptText) × (kept.new ≡ Some k)
-        × (text.entry ≡ front setting input.now → IsKeptOf text.entry input.now k) }
-{
-    if kept.is_none() {
-        keep_text(kept, text, input, setting);
-    }
-}
-
-/// Decodes the input of a kept parser that made no step, and makes the first. Nothing is kept of the text meanwhile.
-#[inline(always)]
-fn begin_kept<'a>(kept: &mut yaml_kept_parser_t, input: &'a [u8]) -> Result<yaml_text_t<'a>, stop_t>
-    requires { (p : Parser) × (p.input ≡ input.now) × (p.session.over ≡ false) × IsKept p kept.old
-        × (kept.old.state.made ≡ 0) }
-    ensures { (p : Parser) → p.input ≡ input.now → p.session.over ≡ false → (k : IsKept p kept.old)
-        → StartsKept k.parser kept.old kept.new result }
-{
-    let text = begin(&mut kept.state, input, kept.setting)?;
-    kept.text = None;
-    Ok(text)
-}
-
-/// Lends the text of a kept parser, for the same input. Before the first step it decodes the input, and makes that
-/// step.
-#[inline(always)]
-fn start_kept<'a>(kept: &mut yaml_kept_parser_t, input: &'a [u8]) -> Result<yaml_text_t<'a>, stop_t>
-    requires { (p : Parser) × (p.input ≡ input.now) × (p.session.over ≡ false) × IsKept p kept.old }
-    ensures { (p : Parser) → p.input ≡ input.now → p.session.over ≡ false → (k : IsKept p kept.old)
-        → StartsKept k.parser kept.old kept.new result }
-{
-    if kept.state.made > 0 {
-        return Ok(lend(&mut kept.text, input));
-    }
-    begin_kept(kept, input)
-}
-
-/// The text of a kept parser that has made the first step, for the same input, if it borrows a part of that.
-#[inline(always)]
-fn lend_again<'a>(kept: &yaml_kept_parser_t, input: &'a [u8]) -> Option<yaml_text_t<'a>>
-    requires { (p : Parser) × (p.input ≡ input.now) × (p.session.over ≡ false) × IsKept p kept.now }
-    ensures { (p : Parser) → p.input ≡ input.now → p.session.over ≡ false → (k : IsKept p kept.now)
-        → IfSome result (λ text. HasBegun k.parser text kept.now.state × IsKeptOf text input.now k.left) }
-{
-    if kept.state.made == 0 {
-        return None;
-    }
-    match &kept.text {
-        Some(text) => text.borrowed(input),
-        None => None,
-    }
-}
-
-/// Gives the next tokens of a kept parser, as `scan_kept` does, in the first call, or where the text has bytes of its
-/// own. It is called and not inlined, so that the other calls need not give the text back.
-#[cold]
-#[inline(never)]
-fn scan_lent<S: yaml_token_sink_t>(
-    kept: &mut yaml_kept_parser_t,
-    input: &[u8],
-    sink: &mut S,
-) -> Result<(), stop_t>
-    requires at { (p : Parser) × (p.input ≡ input.now) × (p.session.over ≡ false) × IsKept p kept.old }
-    requires takes { S.may_refuse → ⊥ }
-    ensures gives { (p : Parser) → p.input ≡ input.now → p.session.over ≡ false → (k : IsKept p kept.old)
-        → GivesKept p k.parser kept.new (λ tokens. S.took sink.old tokens sink.new) (S.lacks sink.new) result }
-    ensures within { S.within sink.old → S.within sink.new }
-{
-    let text = start_kept(kept, input)?;
-    let given = give_while_room::<true, S>(
-        &text,
-        &mut kept.state,
-        &mut kept.session,
-        &mut kept.lead,
-        sink,
-    );
-    give_back(&mut kept.text, text, input, kept.setting);
-    given
-}
-
-/// Gives the next tokens of a kept parser, whose session is not over, to a sink that has room for one.
-#[inline(always)]
-fn scan_kept<S: yaml_token_sink_t>(
-    kept: &mut yaml_kept_parser_t,
-    input: &[u8],
-    sink: &mut S,
-) -> Result<(), stop_t>
-    requires at { (p : Parser) × (p.input ≡ input.now) × (p.session.over ≡ false) × IsKept p kept.old }
-    requires takes { S.may_refuse → ⊥ }
-    ensures gives { (p : Parser) → p.input ≡ input.now → p.session.over ≡ false → (k : IsKept p kept.old)
-        → GivesKept p k.parser kept.new (λ tokens. S.took sink.old tokens sink.new) (S.lacks sink.new) result }
-    ensures within { S.within sink.old → S.within sink.new }
-{
-    if let Some(text) = lend_again(kept, input) {
-        return give_while_room::<false, S>(
-            &text,
-            &mut kept.state,
-            &mut kept.session,
-            &mut kept.lead,
-            sink,
-        );
-    }
-    scan_lent(kept, input, sink)
-}
-
-/// Shows the next token of a kept parser, whose session is not over.
-fn show_kept(kept: &mut yaml_kept_parser_t, input: &[u8]) -> Result<(), stop_t>
-    requires { (p : Parser) × (p.input ≡ input.now) × (p.session.over ≡ false) × IsKept p kept.old }
-    ensures { (p : Parser) → p.input ≡ input.now → p.session.over ≡ false → (k : IsKept p kept.old)
-        → ShowsKept p k.parser kept.new result }
-{
-    let text = start_kept(kept, input)?;
-    let shown = show_next(&text, &mut kept.state, &mut kept.session, &mut kept.lead);
-    give_back(&mut kept.text, text, input, kept.setting);
-    shown
-}
-
-/// Ends the session of a kept parser with the fault of a stop.
-#[cold]
-fn end_kept(kept: &mut yaml_kept_parser_t, stop: stop_t)
-    ensures { (fault : yaml_fault_t) × (fault_of fault ≡ fault_at stop kept.old.state.fault)
-        × (kept.new ≡ ended_by kept.old fault) }
-{
-    let fault = fault_at(stop, &kept.state.fault);
-    kept.session.end(&mut kept.state.fault, fault);
 }
 
 /// Gives the next tokens of a kept parser to a sink, over the same input, until the stream end was given or the sink
@@ -316,10 +277,10 @@ pub fn yaml_kept_scan_to<S: yaml_token_sink_t>(
     if kept.session.over || !sink.has_room(1, 0) {
         return false;
     }
-    match scan_kept(kept, input, sink) {
+    match kept.give(input, sink) {
         Ok(_) => false,
         Err(stop) => {
-            end_kept(kept, stop);
+            let _ = kept.session.end(stop);
             true
         }
     }
@@ -340,14 +301,5 @@ pub fn yaml_kept_peek(kept: &mut yaml_kept_parser_t, input: &[u8]) -> bool
         → (q : Parser) × IsKept q kept.new × (fault : Fault) × (q.session.fault ≡ Some fault)
         × GivesToFault PEEK p q (λ tokens. tokens ≡ []) fault }
 {
-    if kept.session.over {
-        return false;
-    }
-    match show_kept(kept, input) {
-        Ok(_) => false,
-        Err(stop) => {
-            end_kept(kept, stop);
-            true
-        }
-    }
+    !kept.show(input)
 }

@@ -2,6 +2,7 @@
 #![tactic(auto)]
 
 mod allowed;
+mod batch;
 mod calls;
 mod depth;
 mod follower;
@@ -15,7 +16,6 @@ mod layout;
 mod levels;
 mod near;
 mod parser;
-mod room;
 mod scanner;
 mod session;
 mod settled;

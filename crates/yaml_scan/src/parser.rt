@@ -1,235 +1,50 @@
 //! The parser: scan, peek and skip, one call after the other; and the next token, if only tokens are taken.
-ghost use Rattle.std.specs.Prelude.{◌≡◌, ◌⊎◌, ◌+◌, ◌≤◌, ◌<◌, length, MatchResult, Some, true, false, option_map, ◌++◌};
+ghost use Rattle.std.specs.Prelude.{◌≡◌, ◌+◌, ◌≤◌, MatchResult, Some, true, false, option_map, ◌++◌};
 ghost use Rattle.std.specs.Prelude.{◌∷◌, [], List, IfOk, IfErr};
 ghost use Rattle.std.specs.Borrow.{sem};
 ghost use Rattle.yaml_text.specs.Fault.{Fault, fault_of};
 ghost use Rattle.yaml_text.specs.Token.{token_of, Token};
-ghost use Rattle.yaml_text.specs.declared.types.yaml_encoding_t.TheVariants.{YAML_UTF8_ENCODING};
-ghost use Rattle.yaml_text.specs.Text.{Text};
 ghost use Rattle.yaml_scan.specs.Decoded.{decoded_input};
 ghost use Rattle.yaml_scan.specs.KeyLimits.{key_limit, most_key_limit};
-ghost use Rattle.yaml_scan.specs.Settled.{before};
 ghost use Rattle.yaml_scan.specs.Sessions.{new_session, session_queued, session_reach};
-ghost use Rattle.yaml_scan.specs.inside.Scanner.{scanner_of};
-ghost use Rattle.yaml_scan.specs.inside.Scanning.{IsRunning, history};
-ghost use Rattle.yaml_scan.specs.inside.Ready.{IsNew, IsReady, IsSettled, IsStopped, IsShort, IsEnded, Pops, Begins};
-ghost use Rattle.yaml_scan.specs.inside.Ready.{IsStarted, IsShown};
 ghost use Rattle.yaml_scan.specs.Headline.{Calls};
 ghost use Rattle.yaml_scan.specs.Parser.{Parser};
 ghost use Rattle.yaml_scan.specs.ParserCalls.{input_read, course_read, answered, after_call, scan_result, token_shown};
 ghost use Rattle.yaml_scan.specs.ParserCalls.{IsThere, IsRefusedAtStart, peek_result, copied};
-ghost use Rattle.yaml_scan.specs.inside.Shown.{Shows};
 ghost use Rattle.yaml_scan.specs.CallMarks.{IsCountedIn, ReachesTo};
 ghost use Rattle.yaml_scan.specs.Session.Call.{SKIP, SCAN, PEEK};
 ghost use Rattle.yaml_scan.specs.Peek.{OnceLetGo};
 ghost use Rattle.yaml_scan.specs.Puts.{HasNext, IsAnsweredAlike};
-ghost use Rattle.yaml_scan.specs.inside.Stop.{fault_at};
 ghost use Rattle.yaml_scan.specs.Token.{empty, type_of};
 ghost use Rattle.yaml_scan.specs.TokenTypes.{is_last_type};
 ghost use Rattle.yaml_scan.specs.All.{ReadsAll};
 ghost use Rattle.yaml_scan.specs.Scanned.{Scanned};
 ghost use Rattle.yaml_scan.specs.Session.Answer.{TOKEN, FAULT};
 
-use crate::depth::slots_t;
-use crate::groups::queue_t;
+use crate::kept::yaml_kept_parser_t;
 use crate::keys::KEY_LIMIT;
-use crate::levels::layout_t;
-use crate::near::{near_of, near_start};
-use crate::scanner::state_t;
-use crate::session::{is_last, session_t};
-use crate::settled::settle_head;
-use crate::stop::{fault_at, stop_t};
+use crate::session::is_last;
 use std::alloc::Global;
-use std::collections::VecDeque;
 use std::marker::Model;
-use yaml_text::{
-    yaml_decode_front, yaml_encoding_t, yaml_fault_t, yaml_mark_t, yaml_text_t, yaml_token_t,
-};
+use yaml_text::{yaml_encoding_t, yaml_fault_t, yaml_mark_t, yaml_token_t};
 
 /// A parser of an input. Its tokens are taken one after the other.
 #[derive(Drop)]
 pub struct yaml_parser_t<'a> {
     pub(crate) input: &'a [u8],
-    pub(crate) setting: yaml_encoding_t,
-    pub(crate) text: yaml_text_t<'a>,
-    pub(crate) state: state_t,
-    pub(crate) session: session_t,
+    pub(crate) scanner: yaml_kept_parser_t,
     pub(crate) empty: yaml_token_t,
-    /// The token that is shown if the head of the queue hands out one before its own.
-    pub(crate) lead: yaml_token_t,
 }
 
 impl<'a> Model for yaml_parser_t<'a> {
     ghost use Rattle.yaml_scan.specs.Parser.{Parser};
-    ghost use Rattle.yaml_scan.specs.inside.Ready.{parser_of, Sound};
+    ghost use Rattle.yaml_scan.specs.inside.Kept.{parser_in, IsSound};
 
     ghost Value = { Parser };
 
-    ghost view = { parser_of };
+    ghost view = { parser_in };
 
-    ghost invariant = { Sound };
-}
-
-/// The text of no characters.
-fn empty_text<'a>(alloc: Global) -> yaml_text_t<'a> {
-    match yaml_decode_front(alloc, b"", yaml_encoding_t::YAML_UTF8_ENCODING) {
-        Ok((text, _)) => text,
-        Err(_) => unreachable!(),
-    }
-}
-
-/// The state of a scanner that has read nothing.
-pub(crate) fn new_state(alloc: Global, limit: u64) -> state_t
-    ensures new { (text : Text) → IsNew (scanner_of text result) }
-    ensures limit { result.limit ≡ limit }
-{
-    let zero = yaml_mark_t {
-        index: 0,
-        line: 0,
-        column: 0,
-    };
-    state_t {
-        alloc,
-        fault: None,
-        near: 0,
-        limit,
-        slots: slots_t {
-            outer: Vec::new(alloc),
-            not_simple_keys: 0,
-            top: None,
-            awaited: 0,
-        },
-        allowed: true,
-        layout: layout_t {
-            levels: Vec::new(alloc),
-            queue: queue_t {
-                groups: VecDeque::new(alloc),
-                done: 0,
-                early: 0,
-                early_mark: zero,
-            },
-        },
-        reach: zero,
-        gap_end: zero,
-        there: zero,
-        taken: 0,
-        made: 0,
-    }
-}
-
-/// Decodes the input, and makes the first step. Returns the text.
-#[inline(never)]
-pub(crate) fn begin<'a>(
-    state: &mut state_t,
-    input: &'a [u8],
-    setting: yaml_encoding_t,
-) -> Result<yaml_text_t<'a>, stop_t>
-    requires { (text : Text) → IsNew (scanner_of text state.old) }
-    ensures { (text : Text) → MatchResult result
-        (λ front. Begins setting input.now (scanner_of text state.old) (scanner_of front state.new)) (λ s.
-        (IsShort setting input.now (scanner_of text state.old) (fault_at s state.new.fault)
-        ⊎ IsEnded setting input.now (scanner_of text state.old) (scanner_of text state.new)
-        (fault_at s state.new.fault))
-        × IsStopped setting input.now (scanner_of text state.old) (scanner_of text state.new)) }
-{
-    let (text, refusal) = match yaml_decode_front(state.alloc, input, setting) {
-        Ok(front) => front,
-        Err(fault) => {
-            state.fault = Some(fault);
-            return Err(stop_t::FAULT);
-        }
-    };
-    let encoding = text.encoding();
-    let near = near_of(&text, refusal);
-    if let Some(fault) = near_start(refusal, near) {
-        state.fault = Some(fault);
-        return Err(stop_t::FAULT);
-    }
-    let queue = &mut state.layout.queue;
-    queue.put_stream_start(encoding, text.bytes().len())?;
-    state.fault = refusal;
-    state.near = near;
-    state.made = 1;
-    Ok(text)
-}
-
-/// Decodes the input in the place of a text, and makes the first step. It is not inlined, since it is called once.
-#[inline(never)]
-fn begin_text<'a>(
-    text: &mut yaml_text_t<'a>,
-    state: &mut state_t,
-    input: &'a [u8],
-    setting: yaml_encoding_t,
-) -> Result<(), stop_t>
-    requires { IsNew (scanner_of text.old state.old) }
-    ensures { MatchResult result
-        (λ _. Begins setting input.now (scanner_of text.old state.old) (scanner_of text.new state.new)) (λ s.
-        (IsShort setting input.now (scanner_of text.old state.old) (fault_at s state.new.fault)
-        ⊎ IsEnded setting input.now (scanner_of text.old state.old) (scanner_of text.new state.new)
-        (fault_at s state.new.fault))
-        × IsStopped setting input.now (scanner_of text.old state.old) (scanner_of text.new state.new)) }
-{
-    *text = begin(state, input, setting)?;
-    Ok(())
-}
-
-/// Makes the first step, if it was not made.
-#[inline(always)]
-pub(crate) fn start<'a>(
-    text: &mut yaml_text_t<'a>,
-    state: &mut state_t,
-    input: &'a [u8],
-    setting: yaml_encoding_t,
-) -> Result<(), stop_t>
-    requires { IsReady setting input.now (scanner_of text.old state.old) }
-    ensures { MatchResult result (λ _. IsStarted setting input.now (scanner_of text.old state.old)
-        (scanner_of text.new state.new)) (λ s.
-        (IsShort setting input.now (scanner_of text.old state.old) (fault_at s state.new.fault)
-        ⊎ IsEnded setting input.now (scanner_of text.old state.old) (scanner_of text.new state.new)
-        (fault_at s state.new.fault))
-        × IsStopped setting input.now (scanner_of text.old state.old) (scanner_of text.new state.new)) }
-{
-    if state.made > 0 {
-        return Ok(());
-    }
-    begin_text(text, state, input, setting)
-}
-
-/// Makes the steps that the next token needs: none if it was peeked.
-#[inline(always)]
-fn settle<'a>(
-    text: &mut yaml_text_t<'a>,
-    state: &mut state_t,
-    input: &'a [u8],
-    setting: yaml_encoding_t,
-    peeked: bool,
-) -> Result<(), stop_t>
-    requires ready { IsReady setting input.now (scanner_of text.old state.old) }
-    requires shown { peeked ≡ true → IsShown setting input.now (scanner_of text.old state.old) }
-    ensures { MatchResult result (λ _. IsSettled setting input.now (scanner_of text.old state.old)
-        (scanner_of text.new state.new))
-        (λ s. (IsShort setting input.now (scanner_of text.old state.old) (fault_at s state.new.fault)
-        ⊎ IsEnded setting input.now (scanner_of text.old state.old) (scanner_of text.new state.new)
-        (fault_at s state.new.fault))
-        × IsStopped setting input.now (scanner_of text.old state.old) (scanner_of text.new state.new)
-        × (peeked ≡ false)) }
-{
-    if peeked {
-        return Ok(());
-    }
-    start(text, state, input, setting)?;
-    settle_head(text, state)
-}
-
-/// Takes the head of the queue.
-#[inline(always)]
-pub(crate) fn take_head(_text: &yaml_text_t, state: &mut state_t) -> yaml_token_t
-    requires runs { IsRunning (scanner_of _text.now state.old) }
-    requires settled { state.old.taken < length (before state.old.limit (history (scanner_of _text.now state.old))) }
-    ensures { Pops (scanner_of _text.now state.old) (scanner_of _text.now state.new) (token_of result) }
-{
-    state.taken += 1;
-    state.layout.queue.take_next()
+    ghost invariant = { IsSound };
 }
 
 impl<'a> yaml_parser_t<'a> {
@@ -253,16 +68,8 @@ impl<'a> yaml_parser_t<'a> {
     {
         yaml_parser_t {
             input,
-            setting,
-            text: empty_text(alloc),
-            state: new_state(alloc, limit as u64),
-            session: session_t {
-                peeked: false,
-                over: false,
-                failed: false,
-            },
+            scanner: yaml_kept_parser_t::with_key_limit(alloc, setting, limit),
             empty: yaml_token_t::empty(),
-            lead: yaml_token_t::empty(),
         }
     }
 
@@ -270,39 +77,9 @@ impl<'a> yaml_parser_t<'a> {
     fn shown(&self) -> &yaml_token_t
         ensures { token_of result.now ≡ token_shown self.now }
     {
-        if !self.session.peeked {
-            &self.empty
-        } else if self.state.layout.queue.has_lead() {
-            &self.lead
-        } else {
-            &self.state.layout.queue.groups.front().unwrap().token
-        }
-    }
-
-    /// Makes the steps that the next token needs, and has it shown. `false` if the session ended with a fault instead.
-    fn show(&mut self) -> bool
-        ensures { Shows self.old result self.new }
-    {
-        if self.session.over {
-            return true;
-        }
-        match settle(
-            &mut self.text,
-            &mut self.state,
-            self.input,
-            self.setting,
-            self.session.peeked,
-        ) {
-            Ok(_) => {
-                self.state.layout.queue.show_lead(&mut self.lead);
-                self.session.peeked = true;
-                true
-            }
-            Err(stop) => {
-                let fault = fault_at(stop, &self.state.fault);
-                self.session.end(&mut self.state.fault, fault);
-                false
-            }
+        match self.scanner.session.shown() {
+            Some(token) => token,
+            None => &self.empty,
         }
     }
 
@@ -311,24 +88,10 @@ impl<'a> yaml_parser_t<'a> {
         requires { (f : Fault) × (self.now.session.fault ≡ Some f) }
         ensures { self.now.session.fault ≡ Some (fault_of result) }
     {
-        if !self.session.failed {
-            unreachable!();
-        }
-        match self.state.fault {
-            Some(fault) => fault,
+        match self.scanner.session.fault() {
+            Some(fault) => *fault,
             None => unreachable!(),
         }
-    }
-
-    /// Takes the token that was shown.
-    fn take_shown(&mut self) -> yaml_token_t
-        requires { self.old.session.peeked ≡ true }
-        ensures token { token_of result ≡ token_shown self.old }
-        ensures left { self.new ≡ after_call self.old SKIP }
-    {
-        let token = take_head(&self.text, &mut self.state);
-        self.session.pass(&token);
-        token
     }
 }
 
@@ -349,27 +112,7 @@ pub fn yaml_parser_scan(parser: &mut yaml_parser_t) -> Result<yaml_token_t, yaml
     ensures local { IsAnsweredAlike parser.old SCAN (scan_result result) }
     ensures marks { IsCountedIn parser.old (scan_result result) }
 {
-    if parser.session.over {
-        return Ok(yaml_token_t::empty());
-    }
-    match settle(
-        &mut parser.text,
-        &mut parser.state,
-        parser.input,
-        parser.setting,
-        parser.session.peeked,
-    ) {
-        Ok(_) => {
-            let token = take_head(&parser.text, &mut parser.state);
-            parser.session.pass(&token);
-            Ok(token)
-        }
-        Err(stop) => {
-            let fault = fault_at(stop, &parser.state.fault);
-            parser.session.end(&mut parser.state.fault, fault);
-            Err(fault)
-        }
-    }
+    parser.scanner.scan(parser.input)
 }
 
 /// Takes the token that was peeked, and drops it. It needs no memory.
@@ -377,7 +120,7 @@ pub fn yaml_parser_skip(parser: &mut yaml_parser_t)
     requires { parser.old.session.peeked ≡ true }
     ensures { parser.new ≡ after_call parser.old SKIP }
 {
-    let _ = parser.take_shown();
+    let _ = parser.scanner.session.take();
 }
 
 /// Shows the next token, which the next scan or skip takes. After the stream end, and after a fault, it is the empty
@@ -397,7 +140,7 @@ pub fn yaml_parser_peek<'s>(
     ensures local { IsAnsweredAlike parser.old PEEK (peek_result (copied result)) }
     ensures marks { IsCountedIn parser.old (peek_result (copied result)) }
 {
-    if parser.show() {
+    if parser.scanner.show(parser.input) {
         Ok(parser.shown())
     } else {
         Err(parser.last_fault())
@@ -410,18 +153,14 @@ pub fn yaml_parser_has_token(parser: &yaml_parser_t) -> bool
     ensures peeked { result ≡ parser.now.session.peeked }
     ensures next { result ≡ true → HasNext parser.now }
 {
-    parser.session.peeked
+    parser.scanner.session.peeked
 }
 
 /// The fault that has ended the session, if one has: of kind reader, scanner or memory.
 pub fn yaml_parser_fault<'s>(parser: &'s yaml_parser_t<'_>) -> Option<&'s yaml_fault_t>
     ensures { option_map (λ f. fault_of f.now) result ≡ parser.now.session.fault }
 {
-    if parser.session.failed {
-        parser.state.fault.as_ref()
-    } else {
-        None
-    }
+    parser.scanner.session.fault()
 }
 
 /// How many steps have a token that was made and not taken: at most one more than the key limit. STREAM-START is a
@@ -430,7 +169,8 @@ pub fn yaml_parser_queued(parser: &yaml_parser_t) -> u64
     ensures steps { result ≡ session_queued (course_read parser.now) parser.now.session }
     ensures few { result ≤ parser.now.limit + 1 }
 {
-    parser.state.made - parser.state.layout.queue.done
+    let state = &parser.scanner.session.state;
+    state.made - state.layout.queue.done
 }
 
 /// How far the last step without a fault was read: bytes of the text in UTF-8, lines and characters, all from 0. It is
@@ -439,7 +179,7 @@ pub fn yaml_parser_mark(parser: &yaml_parser_t) -> yaml_mark_t
     ensures reach { result ≡ session_reach (course_read parser.now) parser.now.session }
     ensures marks { ReachesTo parser.now result }
 {
-    parser.state.reach
+    parser.scanner.session.state.reach
 }
 
 /// Takes the next token, as [`yaml_parser_scan`] does, and says whether it is the stream end. After the end of the

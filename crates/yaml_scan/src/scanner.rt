@@ -4,15 +4,18 @@ ghost use Rattle.std.specs.Prelude.{◌≡◌, ◌+◌, ◌<◌, ◌^◌, ◌&&�
 ghost use Rattle.std.specs.Option.{is_some, option_copied};
 ghost use Rattle.yaml_text.specs.Text.{Text};
 ghost use Rattle.yaml_scan.specs.Falling.{IsFalling};
+ghost use Rattle.yaml_scan.specs.inside.Ready.{IsNew};
 ghost use Rattle.yaml_scan.specs.inside.Scanner.{scanner_of};
 ghost use Rattle.yaml_scan.specs.inside.Scanning.{IsNewHeld, cleared_in, met_in, refused_in};
 ghost use Rattle.yaml_scan.specs.inside.Slots.{is_level, root_of, slot_after};
 
 use crate::depth::{candidate_t, slots_t};
+use crate::groups::queue_t;
 use crate::keys::{change_slot, completed_by, needed_at, root_at};
 use crate::kind::{is_candidate_kind, is_colon, problem, start_after, step_t};
 use crate::levels::{is_level, layout_t, level_at};
 use std::alloc::Global;
+use std::collections::VecDeque;
 use yaml_lexeme::{yaml_context_t, yaml_lexeme_kind_t};
 use yaml_text::{yaml_fault_t, yaml_mark_t};
 
@@ -41,6 +44,45 @@ pub(crate) struct state_t {
     pub taken: u128,
     /// How many steps were made.
     pub made: u64,
+}
+
+/// The state of a scanner that has read nothing.
+pub(crate) fn new_state(alloc: Global, limit: u64) -> state_t
+    ensures new { (text : Text) → IsNew (scanner_of text result) }
+    ensures limit { result.limit ≡ limit }
+{
+    let zero = yaml_mark_t {
+        index: 0,
+        line: 0,
+        column: 0,
+    };
+    state_t {
+        alloc,
+        fault: None,
+        near: 0,
+        limit,
+        slots: slots_t {
+            outer: Vec::new(alloc),
+            not_simple_keys: 0,
+            top: None,
+            awaited: 0,
+        },
+        allowed: true,
+        layout: layout_t {
+            levels: Vec::new(alloc),
+            queue: queue_t {
+                groups: VecDeque::new(alloc),
+                done: 0,
+                early: 0,
+                early_mark: zero,
+            },
+        },
+        reach: zero,
+        gap_end: zero,
+        there: zero,
+        taken: 0,
+        made: 0,
+    }
 }
 
 impl state_t {

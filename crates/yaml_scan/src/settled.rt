@@ -2,6 +2,7 @@
 ghost use Rattle.std.specs.Prelude.{◌≡◌, ◌⊎◌, ◌+◌, ◌-◌, ◌<◌, ◌^◌, ◌&&◌, not, nat_lt, nat_eq, length};
 ghost use Rattle.std.specs.Prelude.{false, MatchResult};
 ghost use Rattle.yaml_text.specs.Fault.{memory_fault};
+ghost use Rattle.yaml_text.specs.Text.{Text};
 ghost use Rattle.yaml_scan.specs.Course.{ended};
 ghost use Rattle.yaml_scan.specs.inside.Queue.{begins_with_end, pending};
 ghost use Rattle.yaml_scan.specs.Settled.{before};
@@ -19,10 +20,11 @@ use yaml_text::yaml_text_t;
 
 /// Whether the head of the queue is the next token.
 #[inline(always)]
-pub(crate) fn is_settled(_text: &yaml_text_t, state: &state_t) -> bool
-    requires { IsRunning (scanner_of _text.now state.now) }
+pub(crate) fn is_settled(state: &state_t) -> bool
+    ghost text: { Text }
+    requires { IsRunning (scanner_of text state.now) }
     ensures { result ≡ nat_lt state.now.taken (length (before state.now.limit
-        (history (scanner_of _text.now state.now)))) }
+        (history (scanner_of text state.now)))) }
 {
     !state.layout.queue.groups.is_empty() && !is_awaited(state)
 }
@@ -51,7 +53,7 @@ pub(crate) fn settle_head(text: &yaml_text_t, state: &mut state_t) -> Result<(),
         ⊎ Fails (scanner_of text.now state.old) (scanner_of text.now state.new) (fault_at s state.new.fault))
         × Stops (scanner_of text.now state.old) (scanner_of text.now state.new)) }
 {
-    'steps: while !is_settled(text, state) {
+    'steps: while !is_settled(state) {
         advance(text, state)?;
     }
     Ok(())

@@ -9,7 +9,7 @@ fn counted_at_a_scan(parser: &mut yaml_parser_t) -> Result<(yaml_token_type_t, u
         Ok(token) => token.type_(),
         Err(_) => return Err("a fault".into()),
     };
-    Ok((kind, parser.state.slots.not_simple_keys))
+    Ok((kind, parser.scanner.session.state.slots.not_simple_keys))
 }
 
 /// The type of the token that a peek shows, and the counter after it.
@@ -18,7 +18,7 @@ fn counted_at_a_peek(parser: &mut yaml_parser_t) -> Result<(yaml_token_type_t, u
         Ok(token) => token.type_(),
         Err(_) => return Err("a fault".into()),
     };
-    Ok((kind, parser.state.slots.not_simple_keys))
+    Ok((kind, parser.scanner.session.state.slots.not_simple_keys))
 }
 
 /// The lowest slot is that of `[`, which is no key any more after the line break: so the counter rises past it.

@@ -1,26 +1,33 @@
--- What is kept of a parser when its input is let go.
-use Rattle.std.specs.Prelude.{◌≡◌, ◌<◌, Some, false}
-use Rattle.yaml_text.specs.Kept.{KeptText, IsKeptOf}
+-- A scanner without an input, and a parser, which has both.
+use Rattle.std.specs.Prelude.{◌≡◌, ◌<◌, ℕ, List, false}
+use Rattle.yaml_text.specs.Decode.{front}
+use Rattle.yaml_text.specs.Kept.{IsKeptOf}
+use Rattle.yaml_text.specs.Token.{token_of}
 use Rattle.yaml_scan.specs.declared.kept.yaml_kept_parser_t.{yaml_kept_parser_t}
 use Rattle.yaml_scan.specs.declared.parser.yaml_parser_t.TheInside.{Inside}
 use Rattle.yaml_scan.specs.Parser.{Parser}
-use Rattle.yaml_scan.specs.inside.Ready.{Sound, parser_of}
+use Rattle.yaml_scan.specs.Token.{empty}
+use Rattle.yaml_scan.specs.inside.Ready.{Scan, Sound, parser_of}
 
--- all that the parser holds, with this in the place of its text
-abbrev pub kept_of : Inside → KeptText → yaml_kept_parser_t
-kept_of p text = record {
-  setting = p.setting;
-  text = Some text;
-  state = p.state;
-  session = p.session;
-  lead = p.lead;
-}
+-- its scan of this input
+abbrev pub scan_of : List ℕ → yaml_kept_parser_t → Scan
+scan_of input k = record { setting = k.setting; input = input; session = k.session }
 
--- It was kept of this parser. Before the first step and after the last no text is needed.
+-- It is a scanner of this input. Before the first step and after the last no text is needed.
+pub record IsScannerOf (input : List ℕ) (k : yaml_kept_parser_t) : Type 0 where
+  pub sound : Sound (scan_of input k)
+  pub text : k.session.over ≡ false → 0 < k.session.state.made → IsKeptOf (front k.setting input) input k.text
+
+-- It was kept of this parser.
 pub record IsKept (p : Parser) (k : yaml_kept_parser_t) : Type 0 where
-  pub parser : Inside
-  pub sound : Sound parser
-  pub seen_as : parser_of parser ≡ p
-  pub left : KeptText
-  pub kept : k ≡ kept_of parser left
-  pub text : parser.session.over ≡ false → 0 < parser.state.made → IsKeptOf parser.text p.input left
+  pub is : IsScannerOf p.input k
+  pub seen_as : parser_of (scan_of p.input k) ≡ p
+
+-- THE PARSER
+-- as its calls see it
+abbrev pub parser_in : Inside → Parser
+parser_in p = parser_of (scan_of p.input.now p.scanner)
+
+pub record IsSound (p : Inside) : Type 0 where
+  pub scanner : IsScannerOf p.input.now p.scanner
+  pub empty : token_of p.empty ≡ empty

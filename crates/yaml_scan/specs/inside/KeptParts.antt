@@ -1,42 +1,35 @@
--- The calls of a kept parser, by the parts that it is scanned with.
-use Rattle.std.specs.Prelude.{◌≡◌, ◌⊎◌, ℕ, ◌<◌, Bool, true, false, List, [], MatchResult, Result}
-use Rattle.yaml_text.specs.Fault.{Fault}
+-- The calls of a scan, by what they make of its session.
+use Rattle.std.specs.Prelude.{◌≡◌, ◌⊎◌, ℕ, ◌<◌, Bool, true, false, List, [], ◌∷◌, MatchResult, Result, Ok, Err, Some}
+use Rattle.yaml_text.specs.Decode.{front}
+use Rattle.yaml_text.specs.Fault.{Fault, fault_of}
 use Rattle.yaml_text.specs.Text.{Text}
-use Rattle.yaml_text.specs.declared.token.yaml_token_t.{yaml_token_t as code_token_t}
+use Rattle.yaml_text.specs.declared.fault.yaml_fault_t.{yaml_fault_t}
 use Rattle.yaml_scan.specs.declared.stop.stop_t.{stop_t}
-use Rattle.yaml_scan.specs.declared.parser.yaml_parser_t.TheInside.{Inside}
 use Rattle.yaml_scan.specs.declared.session.session_t.{session_t}
 use Rattle.yaml_scan.specs.declared.scanner.state_t.{state_t}
 use Rattle.yaml_scan.specs.Decoded.{decoded_input}
 use Rattle.yaml_scan.specs.Headline.{Calls}
 use Rattle.yaml_scan.specs.KeptCalls.{ComesFirst, HasNoMoreRoom, token_peeked}
 use Rattle.yaml_scan.specs.Parser.{Parser}
-use Rattle.yaml_scan.specs.ParserCalls.{token_shown}
+use Rattle.yaml_scan.specs.ParserCalls.{after_call, token_shown}
 use Rattle.yaml_scan.specs.Scanned.{GoesOnBy}
-use Rattle.yaml_scan.specs.Session.Call.{PEEK}
-use Rattle.yaml_scan.specs.Session.Answer.{PEEKED}
+use Rattle.yaml_scan.specs.Session.Call.{PEEK, SCAN, SKIP}
+use Rattle.yaml_scan.specs.Session.Answer.{FAULT, PEEKED, TOKEN}
 use Rattle.yaml_scan.specs.Token.{yaml_token_t}
-use Rattle.yaml_scan.specs.inside.Ready.{IsEnded, IsSettled, IsShort, IsShown, IsStarted, IsStopped, Sound}
-use Rattle.yaml_scan.specs.inside.Ready.{fault_in, parser_of, scanner_in}
+use Rattle.yaml_scan.specs.inside.Ready.{IsEnded, IsSettled, IsShort, IsShown, IsStarted, IsStopped, Scan, Sound}
+use Rattle.yaml_scan.specs.inside.Ready.{fault_in, parser_of, scanner_in, with_session}
 use Rattle.yaml_scan.specs.inside.Scanner.{Scanner, scanner_of}
+use Rattle.yaml_scan.specs.inside.Sent.{HasSent}
 use Rattle.yaml_scan.specs.inside.Stop.{fault_at}
 
--- a parser with these parts in the place of its own
-abbrev pub with_parts : Inside → Text → state_t → session_t → code_token_t → Inside
-with_parts i text state session lead = record {
-  input = i.input;
-  setting = i.setting;
-  text = text;
-  state = state;
-  session = session;
-  empty = i.empty;
-  lead = lead;
-}
+-- a session whose scanner alone has gone on
+abbrev pub on_to : session_t → state_t → session_t
+on_to s state = record { state = state; lead = s.lead; peeked = s.peeked; over = s.over; failed = s.failed }
 
--- the parser i as it shows its next token in this state
-abbrev pub shown_in : Inside → state_t → Parser
+-- the parser of a scan as it shows its next token in this state
+abbrev pub shown_in : Scan → state_t → Parser
 shown_in i state = record {
-  input = i.input.now;
+  input = i.input;
   setting = i.setting;
   limit = state.limit;
   session = record {
@@ -48,70 +41,86 @@ shown_in i state = record {
   };
 }
 
--- The parser i is not over, and this is its scanner once its first step was made, now or before.
-pub record HasBegun (i : Inside) (text : Text) (state : state_t) : Type 0 where
+-- The scan i is not over, and this is its session once its first step was made, now or before.
+pub record HasBegun (i : Scan) (text : Text) (s : session_t) : Type 0 where
   pub sound : Sound i
   pub still_open : i.session.over ≡ false
-  pub started : IsStarted i.setting i.input.now (scanner_in i) (scanner_of text state)
-  pub shown : i.session.peeked ≡ true → IsShown i.setting i.input.now (scanner_of text state)
+  pub started : IsStarted i.setting i.input (scanner_in i) (scanner_of text s.state)
+  pub shown : i.session.peeked ≡ true → IsShown i.setting i.input (scanner_of text s.state)
+  pub rest : s ≡ on_to i.session s.state
 
--- The parser i is not over, and this is its scanner once its next token is at the head of the queue.
-pub record HasSettled (i : Inside) (text : Text) (state : state_t) : Type 0 where
+-- The scan i is not over, and this is its session once its next token is at the head of the queue.
+pub record HasSettled (i : Scan) (text : Text) (s : session_t) : Type 0 where
   pub sound : Sound i
   pub still_open : i.session.over ≡ false
-  pub settled : IsSettled i.setting i.input.now (scanner_in i) (scanner_of text state)
+  pub settled : IsSettled i.setting i.input (scanner_in i) (scanner_of text s.state)
+  pub rest : s ≡ on_to i.session s.state
 
--- The parser i has gone on by these tokens, and is j then.
-pub record GoesOnTo (i j : Inside) (tokens : List yaml_token_t) : Type 0 where
+-- The scan i has gone on by these tokens, and is j then.
+pub record GoesOnTo (i j : Scan) (tokens : List yaml_token_t) : Type 0 where
   pub sound : Sound j
-  pub begun : 0 < j.state.made
+  pub begun : 0 < j.session.state.made
   pub on : GoesOnBy (parser_of i) tokens (parser_of j) j.session.over
   pub first : ComesFirst (token_peeked (parser_of i)) tokens (parser_of j)
 
--- The parser i shows its next token, and is j then.
-pub record ShowsTo (i j : Inside) : Type 0 where
+-- The scan i shows its next token, and is j then.
+pub record ShowsTo (i j : Scan) : Type 0 where
   pub stands : GoesOnTo i j []
   pub peeked : j.session.peeked ≡ true
   pub still_open : j.session.over ≡ false
   pub call : Calls decoded_input PEEK (parser_of i) (PEEKED (token_shown (parser_of j))) (parser_of j)
 
--- The parser i has gone on by these tokens, and then the scanner t is where it stops with this fault.
-pub record StopsAfter (i : Inside) (t : Scanner) (tokens : List yaml_token_t) (fault : Fault) : Type 0 where
-  pub last : Inside
-  pub rest : last ≡ with_parts i last.text last.state last.session last.lead
-  pub sound : Sound last
-  pub still_open : last.session.over ≡ false
-  pub not_peeked : last.session.peeked ≡ false
-  pub on : GoesOnBy (parser_of i) tokens (parser_of last) false
-  pub first : ComesFirst (token_peeked (parser_of i)) tokens (parser_of last)
-  pub why : IsShort last.setting last.input.now (scanner_in last) fault
-      ⊎ IsEnded last.setting last.input.now (scanner_in last) t fault
-  pub stopped : IsStopped last.setting last.input.now (scanner_in last) t
+-- The next token of the scan i is x, which is taken, and it is j then. If it was shown, that was a skip.
+pub record Takes (i : Scan) (x : yaml_token_t) (j : Scan) : Type 0 where
+  pub stands : GoesOnTo i j (x ∷ [])
+  pub call : Calls decoded_input SCAN (parser_of i) (TOKEN x) (parser_of j)
+  pub skips : i.session.peeked ≡ true → parser_of j ≡ after_call (parser_of i) SKIP
 
--- A sink took the next tokens of the parser i, which is j then, and more go there or there is a reason why not; or it
--- took some, and there is a fault.
+-- The scan i, whose next token was not shown, has stopped in this session with this fault.
+pub record StopsNow (i : Scan) (s : session_t) (fault : Fault) : Type 0 where
+  pub sound : Sound i
+  pub still_open : i.session.over ≡ false
+  pub not_peeked : i.session.peeked ≡ false
+  pub why : IsShort i.setting i.input (scanner_in i) fault
+      ⊎ IsEnded i.setting i.input (scanner_in i) (scanner_in (with_session i s)) fault
+  pub stopped : IsStopped i.setting i.input (scanner_in i) (scanner_in (with_session i s))
+
+-- The scan i has gone on by these tokens, and then stopped in this session with this fault.
+pub record StopsAfter (i : Scan) (s : session_t) (tokens : List yaml_token_t) (fault : Fault) : Type 0 where
+  pub last : session_t
+  pub stops : StopsNow (with_session i last) s fault
+  pub on : GoesOnBy (parser_of i) tokens (parser_of (with_session i last)) false
+  pub first : ComesFirst (token_peeked (parser_of i)) tokens (parser_of (with_session i last))
+
+-- A call has ended the session of the scan i with a fault, and it is j then.
+pub record EndsNow (i j : Scan) : Type 0 where
+  pub fault : yaml_fault_t
+  pub kept : (parser_of j).session.fault ≡ Some (fault_of fault)
+  pub not_peeked : i.session.peeked ≡ false
+  pub call : Calls decoded_input PEEK (parser_of i) (FAULT (fault_of fault)) (parser_of j)
+
+-- Tokens of the scan i went to a sink; or none did, and its next token is at the head of the queue, or there is a
+-- fault.
+abbrev pub SendsNext : Scan → Text → session_t → (List yaml_token_t → Type 0) → Result Bool stop_t → Type 0
+SendsNext i text s took (Ok true) = HasSettled i text s × took []
+SendsNext i text s took (Ok false) = (tokens : List yaml_token_t) × took tokens
+    × HasSent i.setting i.input (scanner_in i) (scanner_of text s.state) tokens
+    × GoesOnTo i (with_session i s) tokens × (s.over ≡ false)
+SendsNext i text s took (Err stop) = StopsNow i s (fault_at stop s.state.fault) × took []
+
+-- A sink took the next tokens of the scan i, and more go there or there is a reason why not; or it took some, and there
+-- is a fault.
 abbrev pub GivesOn
-    : Inside → Inside → (List yaml_token_t → Type 0) → (ℕ → ℕ → Type 0) → Result Bool stop_t → Type 0
-GivesOn i j took lacks result = MatchResult result
-    (λ more. (tokens : List yaml_token_t) × took tokens × GoesOnTo i j tokens
-    × (more ≡ true → j.session.over ≡ false) × (more ≡ false → HasNoMoreRoom lacks (parser_of j)))
-    (λ stop. (tokens : List yaml_token_t) × took tokens
-    × StopsAfter i (scanner_in j) tokens (fault_at stop j.state.fault))
+    : Scan → session_t → (List yaml_token_t → Type 0) → (ℕ → ℕ → Type 0) → Result Bool stop_t → Type 0
+GivesOn i s took lacks result = MatchResult result
+    (λ more. (tokens : List yaml_token_t) × took tokens × GoesOnTo i (with_session i s) tokens
+    × (more ≡ true → s.over ≡ false) × (more ≡ false → HasNoMoreRoom lacks (parser_of (with_session i s))))
+    (λ stop. (tokens : List yaml_token_t) × took tokens × StopsAfter i s tokens (fault_at stop s.state.fault))
 
 -- The same, to the end.
 abbrev pub GivesAllOn
-    : Inside → Inside → (List yaml_token_t → Type 0) → (ℕ → ℕ → Type 0) → Result (Unit {0}) stop_t → Type 0
-GivesAllOn i j took lacks result = MatchResult result
-    (λ _. (tokens : List yaml_token_t) × took tokens × GoesOnTo i j tokens × HasNoMoreRoom lacks (parser_of j))
-    (λ stop. (tokens : List yaml_token_t) × took tokens
-    × StopsAfter i (scanner_in j) tokens (fault_at stop j.state.fault))
-
--- The parser i shows its next token, and is j then; or there is a fault.
-abbrev pub ShowsNext : Inside → Inside → Result (Unit {0}) stop_t → Type 0
-ShowsNext i j result = MatchResult result (λ _. ShowsTo i j)
-    (λ stop. StopsAfter i (scanner_in j) [] (fault_at stop j.state.fault))
-
--- The next token of i is at the head of the queue; or there is a fault.
-abbrev pub SettlesNext : Inside → Text → state_t → Result (Unit {0}) stop_t → Type 0
-SettlesNext i text state result = MatchResult result (λ _. HasSettled i text state)
-    (λ stop. StopsAfter i (scanner_of text state) [] (fault_at stop state.fault))
+    : Scan → session_t → (List yaml_token_t → Type 0) → (ℕ → ℕ → Type 0) → Result (Unit {0}) stop_t → Type 0
+GivesAllOn i s took lacks result = MatchResult result
+    (λ _. (tokens : List yaml_token_t) × took tokens × GoesOnTo i (with_session i s) tokens
+    × HasNoMoreRoom lacks (parser_of (with_session i s)))
+    (λ stop. (tokens : List yaml_token_t) × took tokens × StopsAfter i s tokens (fault_at stop s.state.fault))

@@ -11,11 +11,11 @@ use Rattle.yaml_scan.specs.Course.{Course, course}
 use Rattle.yaml_scan.specs.inside.Scanner.{Scanner, scanner_of}
 use Rattle.yaml_scan.specs.declared.depth.slots_t.{slots_t}
 use Rattle.yaml_scan.specs.declared.levels.layout_t.{layout_t}
-use Rattle.yaml_scan.specs.declared.parser.yaml_parser_t.TheInside.{Inside}
+use Rattle.yaml_scan.specs.declared.session.session_t.{session_t}
 use Rattle.yaml_text.specs.Token.{token_of}
 use Rattle.yaml_scan.specs.KeyLimits.{most_key_limit}
 use Rattle.yaml_scan.specs.Laid.{reach}
-use Rattle.yaml_scan.specs.Token.{yaml_token_t, empty}
+use Rattle.yaml_scan.specs.Token.{yaml_token_t}
 use Rattle.yaml_scan.specs.Groups.{Token, handed_out}
 use Rattle.yaml_scan.specs.Settled.{before, settled, pace, first_steps, tokens_of}
 use Rattle.yaml_scan.specs.Session.{all_steps}
@@ -108,41 +108,63 @@ pub record Pops (s t : Scanner) (x : yaml_token_t) : Type 0 where
   pub made : t.made ≡ s.made
   pub taken : t.taken ≡ s.taken + 1
 
--- THE PARSER
--- its scanner
-abbrev pub scanner_in : Inside → Scanner
-scanner_in p = scanner_of p.text p.state
+-- A SCAN
+-- a session over an input, in an encoding setting
+pub record Scan : Type 0 where
+  pub setting : yaml_encoding_t
+  pub input : List ℕ
+  pub session : session_t
+
+-- the same, with another session
+abbrev pub with_session : Scan → session_t → Scan
+with_session i s = record { setting = i.setting; input = i.input; session = s }
+
+-- its scanner, once it has a text
+abbrev pub scanner_in : Scan → Scanner
+scanner_in i = scanner_of (front i.setting i.input) i.session.state
 
 -- the fault that ended its session, if one did
 abbrev pub fault_in : Bool → Option yaml_fault_t → Option Fault
 fault_in failed stored = if failed then option_map fault_of stored else None
 
-abbrev pub parser_of : Inside → Parser
-parser_of p = record {
-  input = p.input.now;
-  setting = p.setting;
-  limit = p.state.limit;
+-- its parser
+abbrev pub parser_of : Scan → Parser
+parser_of i = record {
+  input = i.input;
+  setting = i.setting;
+  limit = i.session.state.limit;
   session = record {
-    taken = p.state.taken;
-    steps = p.state.made;
-    peeked = p.session.peeked;
-    over = p.session.over;
-    fault = fault_in p.session.failed p.state.fault;
+    taken = i.session.state.taken;
+    steps = i.session.state.made;
+    peeked = i.session.peeked;
+    over = i.session.over;
+    fault = fault_in i.session.failed i.session.state.fault;
   };
 }
 
-pub record Sound (p : Inside) : Type 0 where
-  pub ready : p.session.over ≡ false → IsReady p.setting p.input.now (scanner_in p)
-  pub peeked : p.session.peeked ≡ true → (p.session.over ≡ false) × IsShown p.setting p.input.now (scanner_in p)
-  pub failed : p.session.over ≡ false → p.session.failed ≡ false
-  pub reach : p.state.reach
-      ≡ reach (first_steps p.state.made (course_in p.state.limit p.setting p.input.now).read)
-  pub empty : token_of p.empty ≡ empty
-  pub lead : p.session.peeked ≡ true → IsLead p.text.encoding p.state.layout.queue (token_of p.lead)
-  pub limit : p.state.limit ≤ most_key_limit
-  pub queued : session_queued (course_in p.state.limit p.setting p.input.now) (parser_of p).session
-      + p.state.layout.queue.done ≡ p.state.made
-  pub few : session_queued (course_in p.state.limit p.setting p.input.now) (parser_of p).session ≤ p.state.limit + 1
+pub record Sound (i : Scan) : Type 0 where
+  pub ready : i.session.over ≡ false → IsReady i.setting i.input (scanner_in i)
+  pub peeked : i.session.peeked ≡ true → (i.session.over ≡ false) × IsShown i.setting i.input (scanner_in i)
+  pub failed : i.session.over ≡ false → i.session.failed ≡ false
+  pub reach : i.session.state.reach
+      ≡ reach (first_steps i.session.state.made (course_in i.session.state.limit i.setting i.input).read)
+  pub lead : i.session.peeked ≡ true
+      → IsLead (front i.setting i.input).encoding i.session.state.layout.queue (token_of i.session.lead)
+  pub limit : i.session.state.limit ≤ most_key_limit
+  pub queued : session_queued (course_in i.session.state.limit i.setting i.input) (parser_of i).session
+      + i.session.state.layout.queue.done ≡ i.session.state.made
+  pub few : session_queued (course_in i.session.state.limit i.setting i.input) (parser_of i).session
+      ≤ i.session.state.limit + 1
+
+-- the session after a fault that ended it
+abbrev pub ended_by : session_t → yaml_fault_t → session_t
+ended_by s fault = record {
+  state = record s.state { fault = Some fault };
+  lead = s.lead;
+  peeked = false;
+  over = true;
+  failed = true;
+}
 
 -- STREAM-START was made
 pub record Begins (setting : yaml_encoding_t) (input : List ℕ) (s t : Scanner) : Type 0 where
