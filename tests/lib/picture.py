@@ -99,6 +99,16 @@ def home(crate, path, name):
     return (crate, first) if found(f"crates/{crate}/src/{first}.rt") else None
 
 
+def owner(crate, name, of_type, function):
+    """The module that has a function of a type: the type's own, or one of its crate that has a further `impl` of the type."""
+    if function not in module(crate, name)[1]:
+        for path in found(f"crates/{crate}/src/*.rt"):
+            other = os.path.basename(path)[: -len(".rt")]
+            if f"\nimpl {of_type} {{\n" in read(path) and function in module(crate, other)[1]:
+                return crate, other
+    return crate, name
+
+
 def called(crate, name, function):
     """The functions that the body of a function calls, in order, each with its crate and module.
 
@@ -113,7 +123,7 @@ def called(crate, name, function):
             having = [place for place in places if word in module(*place)[1]]
             yield from [(*place, word) for place in sorted(having, key=lambda place: module(*place)[1][word] is not None)][:1]
         elif homes.get(word):
-            yield (*homes[word], inner or word)
+            yield (*owner(*homes[word], word, inner), inner) if inner else (*homes[word], word)
         elif word in functions and not inner:
             yield crate, name, word
         elif inner in functions and len(word) == 1:

@@ -1,4 +1,4 @@
--- A text whose input was let go.
+-- What is kept of a text when its input is let go.
 use Rattle.std.specs.Prelude.{ℕ, ◌≡◌, ◌+◌, ◌≤◌, List, length, take, drop, Option, unwrap_or}
 use Rattle.std.specs.Str.{chars}
 use Rattle.yaml_text.specs.declared.types.yaml_encoding_t.{yaml_encoding_t}

@@ -2,7 +2,6 @@
 -- needs these.
 pub mod Cursor
 pub mod Fronts
-pub mod Held
 pub mod Singles
 pub mod Cells
 pub mod Units

@@ -7,8 +7,9 @@ ghost use Rattle.yaml_text.specs.Utf8.{offence8};
 ghost use Rattle.yaml_text.specs.Decode.{encoding_of, bom_len, after_bom};
 ghost use Rattle.yaml_text.specs.Decoding.{BeginsWithNone, IsLongestFront, refusal_seen, decoding, Decodes, outcome};
 ghost use Rattle.yaml_text.specs.Decoding.{Spells, IsRefused};
-ghost use Rattle.yaml_text.specs.inside.Fronts.{Fronts};
+ghost use Rattle.yaml_text.specs.inside.Fronts.{KeepsFront};
 ghost use Rattle.yaml_text.specs.Decode.{front, refusal};
+ghost use Rattle.yaml_text.specs.Kept.{IsKeptOf};
 ghost use Rattle.yaml_text.specs.inside.Fronts.{order};
 ghost use Rattle.yaml_text.specs.Fault.{fault_of, memory_fault, reader_fault};
 ghost use Rattle.yaml_text.specs.declared.types.yaml_encoding_t.TheVariants.{YAML_UTF8_ENCODING};
@@ -18,20 +19,13 @@ ghost use Rattle.yaml_text.specs.declared.types.yaml_encoding_t.TheVariants.{YAM
 use crate::ascii::{rest, single_len};
 use crate::blocks::whole_len;
 use crate::fault::{make_memory_fault, make_reader_fault, yaml_fault_t};
+use crate::kept::{kept_bytes, kept_part, yaml_kept_text_t};
 use crate::offence::offence_t;
-use crate::text::{borrowed_text, owned_text, yaml_text_t};
+use crate::text::yaml_text_t;
 use crate::types::yaml_encoding_t;
 use crate::utf8::first_char;
 use crate::utf16::front16;
 use std::alloc::Global;
-
-/// The bytes up to a place.
-fn up_to(bytes: &[u8], at: usize) -> &[u8]
-    requires { at ≤ length bytes.now }
-    ensures { result.now ≡ take at bytes.now }
-{
-    &bytes[..at]
-}
 
 /// How many of the first bytes are whole characters, as far as they are looked at many at a time.
 fn quick_len(bytes: &[u8]) -> usize
@@ -67,7 +61,7 @@ fn front8(bytes: &[u8]) -> (usize, Option<offence_t>)
 
 /// The encoding that is set, or else that of the byte order mark, or else UTF-8; and how many bytes of such a
 /// mark are dropped.
-pub(crate) fn find_encoding(setting: yaml_encoding_t, input: &[u8]) -> (yaml_encoding_t, usize)
+fn find_encoding(setting: yaml_encoding_t, input: &[u8]) -> (yaml_encoding_t, usize)
     ensures encoding { result.0 ≡ encoding_of setting input.now }
     ensures bom_len { result.1 ≡ bom_len setting input.now }
     ensures within { result.1 ≤ length input.now }
@@ -102,14 +96,13 @@ fn refusal(before: usize, offence: Option<offence_t>) -> Option<yaml_fault_t>
     }
 }
 
-/// The front in UTF-8 of bytes that begin `before` bytes into the input. It is borrowed.
-fn front_in_utf8<'a>(bytes: &'a [u8], before: usize) -> (yaml_text_t<'a>, Option<yaml_fault_t>)
-    requires { before + length bytes.now < 2 ^ 64 }
-    ensures { Fronts YAML_UTF8_ENCODING before bytes.now result.0 (refusal_seen result.1) }
+/// What is kept of the front in UTF-8 of what begins `before` bytes into the input: a part of the input.
+fn front_in_utf8(input: &[u8], before: usize) -> (yaml_kept_text_t, Option<yaml_fault_t>)
+    requires { before ≤ length input.now }
+    ensures { KeepsFront YAML_UTF8_ENCODING before input.now result.0 (refusal_seen result.1) }
 {
-    let (len, offence) = front8(bytes);
-    let text = borrowed_text(up_to(bytes, len));
-    (text, refusal(before + len, offence))
+    let (len, offence) = front8(rest(input, before));
+    (kept_part(before, len), refusal(before + len, offence))
 }
 
 fn order(big: bool) -> yaml_encoding_t
@@ -122,23 +115,54 @@ fn order(big: bool) -> yaml_encoding_t
     }
 }
 
-/// The front in UTF-16 of bytes that begin `before` bytes into the input. It is copied into UTF-8. Each order of bytes
-/// has a function of its own.
+/// What is kept of the front in UTF-16 of what begins `before` bytes into the input: its bytes in UTF-8. Each order of
+/// bytes has a function of its own.
 #[inline(never)]
-fn front_in_utf16<'a, const BIG: bool>(
+fn front_in_utf16<const BIG: bool>(
     alloc: Global,
-    bytes: &[u8],
+    input: &[u8],
     before: usize,
-) -> Result<(yaml_text_t<'a>, Option<yaml_fault_t>), yaml_fault_t>
-    requires { before + length bytes.now < 2 ^ 64 }
-    ensures front { IfOk result (λ r. Fronts (order BIG) before bytes.now r.0 (refusal_seen r.1)) }
+) -> Result<(yaml_kept_text_t, Option<yaml_fault_t>), yaml_fault_t>
+    requires { before ≤ length input.now }
+    ensures front { IfOk result (λ r. KeepsFront (order BIG) before input.now r.0 (refusal_seen r.1)) }
     ensures memory { IfErr result (λ fault. fault_of fault ≡ memory_fault) }
 {
-    let Ok((utf8, len, offence)) = front16(alloc, bytes, BIG) else {
+    let Ok((utf8, len, offence)) = front16(alloc, rest(input, before), BIG) else {
         return Err(make_memory_fault());
     };
-    let text = owned_text(order(BIG), utf8);
-    Ok((text, refusal(before + len, offence)))
+    let kept = kept_bytes(order(BIG), utf8);
+    Ok((kept, refusal(before + len, offence)))
+}
+
+impl yaml_kept_text_t {
+    /// The front of an input, in the form that is kept when the input is let go, and the fault of what follows it, if
+    /// anything does. They are those of [`yaml_decode_front`](crate::yaml_decode_front). In UTF-8 no memory is taken.
+    ///
+    /// # Errors
+    ///
+    /// A fault of kind memory, for UTF-16 only.
+    #[inline(always)]
+    pub fn decode(
+        alloc: Global,
+        input: &[u8],
+        setting: yaml_encoding_t,
+    ) -> Result<(yaml_kept_text_t, Option<yaml_fault_t>), yaml_fault_t>
+        ensures front { IfOk result (λ r. IsKeptOf (front setting input.now) input.now r.0) }
+        ensures refusal { IfOk result (λ r. refusal_seen r.1 ≡ refusal setting input.now) }
+        ensures memory { IfErr result (λ fault. fault_of fault ≡ memory_fault) }
+        ensures borrowed { encoding_of setting input.now ≡ YAML_UTF8_ENCODING → IsOk result }
+    {
+        let (encoding, before) = find_encoding(setting, input);
+        match encoding {
+            yaml_encoding_t::YAML_UTF16LE_ENCODING => Ok(front_in_utf16::<false>(
+                alloc, input, before,
+            )?),
+            yaml_encoding_t::YAML_UTF16BE_ENCODING => {
+                Ok(front_in_utf16::<true>(alloc, input, before)?)
+            }
+            _ => Ok(front_in_utf8(input, before)),
+        }
+    }
 }
 
 /// The front of an input, and the fault of what follows it, if anything does.
@@ -162,14 +186,9 @@ pub fn yaml_decode_front<'a>(
     ensures memory { IfErr result (λ fault. fault_of fault ≡ memory_fault) }
     ensures borrowed { encoding_of setting input.now ≡ YAML_UTF8_ENCODING → IsOk result }
 {
-    let (encoding, before) = find_encoding(setting, input);
-    let bytes = rest(input, before);
-    match encoding {
-        yaml_encoding_t::YAML_UTF16LE_ENCODING => Ok(front_in_utf16::<false>(
-            alloc, bytes, before,
-        )?),
-        yaml_encoding_t::YAML_UTF16BE_ENCODING => Ok(front_in_utf16::<true>(alloc, bytes, before)?),
-        _ => Ok(front_in_utf8(bytes, before)),
+    match yaml_kept_text_t::decode(alloc, input, setting) {
+        Ok((kept, fault)) => Ok((kept.into_text(input), fault)),
+        Err(fault) => Err(fault),
     }
 }
 

@@ -1,15 +1,14 @@
-//! A text whose input was let go, and taken up again.
-ghost use Rattle.std.specs.Prelude.{◌≡◌, IfSome, IsNone, IsSome};
-ghost use Rattle.yaml_text.specs.Decode.{front};
+//! What is kept of a text when its input is let go.
+ghost use Rattle.std.specs.Prelude.{◌≡◌, ◌≢◌, ℕ, [], List, None, Some};
 ghost use Rattle.yaml_text.specs.Kept.{IsKeptOf};
 ghost use Rattle.yaml_text.specs.Text.{Text};
+ghost use Rattle.yaml_text.specs.declared.types.yaml_encoding_t.TheVariants.{YAML_ANY_ENCODING, YAML_UTF8_ENCODING};
 
-use crate::decode::find_encoding;
 use crate::text::{borrowed_text, owned_text, yaml_text_t};
 use crate::types::yaml_encoding_t;
 use std::marker::Model;
 
-/// What is kept of a text when its input is let go: its own bytes, or which part of the input it borrows.
+/// What is kept of a text when its input is let go: its own bytes, or which part of the input is its text.
 #[derive(Drop)]
 pub struct yaml_kept_text_t {
     encoding: yaml_encoding_t,
@@ -19,10 +18,9 @@ pub struct yaml_kept_text_t {
 }
 
 impl Model for yaml_kept_text_t {
-    ghost use Rattle.std.specs.Prelude.{◌≡◌, ◌≢◌, IsNone, option_map};
+    ghost use Rattle.std.specs.Prelude.{◌≢◌, option_map};
     ghost use Rattle.yaml_text.specs.Kept.{KeptText};
     ghost use Rattle.yaml_text.specs.declared.types.yaml_encoding_t.TheVariants.{YAML_ANY_ENCODING};
-    ghost use Rattle.yaml_text.specs.declared.types.yaml_encoding_t.TheVariants.{YAML_UTF8_ENCODING};
 
     ghost Value = { KeptText };
 
@@ -33,47 +31,32 @@ impl Model for yaml_kept_text_t {
       len = k.len;
     } };
 
-    ghost invariant = { λ k. (k.encoding ≢ YAML_ANY_ENCODING) × (IsNone k.own → k.encoding ≡ YAML_UTF8_ENCODING) };
+    ghost invariant = { λ k. k.encoding ≢ YAML_ANY_ENCODING };
 }
 
 impl yaml_kept_text_t {
-    /// What is kept of the front of an input. It takes no memory.
-    pub fn new(text: yaml_text_t, input: &[u8], setting: yaml_encoding_t) -> yaml_kept_text_t
-        ensures { text.entry ≡ front setting input.now → IsKeptOf text.entry input.now result }
+    /// What is kept of the text of no characters, for any input.
+    pub fn empty() -> yaml_kept_text_t
+        ensures { (input : List ℕ) → IsKeptOf (record { encoding = YAML_UTF8_ENCODING; chars = [] }) input result }
     {
-        let encoding = text.encoding();
-        let len = text.bytes().len();
-        let Some(bytes) = text.into_own() else {
-            return yaml_kept_text_t {
-                encoding,
-                own: None,
-                start: find_encoding(setting, input).1,
-                len,
-            };
-        };
-        yaml_kept_text_t {
-            encoding,
-            own: Some(bytes),
-            start: 0,
-            len: 0,
-        }
+        kept_part(0, 0)
     }
 
-    /// The text again, for the same input, if it borrows a part of that. Returns `None` if it has bytes of its own.
+    /// The text, over the same input. It borrows the input or the bytes that are kept, and moves nothing.
     #[inline(always)]
-    pub fn borrowed<'a>(&self, input: &'a [u8]) -> Option<yaml_text_t<'a>>
+    pub fn view<'a>(&'a self, input: &'a [u8]) -> yaml_text_t<'a>
         requires { (t : Text) × IsKeptOf t input.now self.now }
-        ensures again { IfSome result (λ text. (t : Text) → IsKeptOf t input.now self.now → text ≡ t) }
-        ensures own { IsNone result → IsSome self.now.own }
+        ensures { (t : Text) → IsKeptOf t input.now self.now → result ≡ t }
     {
-        match self.own {
-            Some(_) => None,
-            None => Some(borrowed_text(&input[self.start..self.start + self.len])),
+        match &self.own {
+            Some(bytes) => borrowed_text(self.encoding, bytes.as_slice()),
+            None => borrowed_text(self.encoding, &input[self.start..self.start + self.len]),
         }
     }
 
-    /// The text again, for the same input.
-    pub fn text<'a>(self, input: &'a [u8]) -> yaml_text_t<'a>
+    /// The text, over the same input. It has the bytes that were kept, or borrows the input.
+    #[inline(always)]
+    pub(crate) fn into_text<'a>(self, input: &'a [u8]) -> yaml_text_t<'a>
         requires { (t : Text) × IsKeptOf t input.now self }
         ensures { (t : Text) → IsKeptOf t input.now self → result ≡ t }
     {
@@ -85,7 +68,34 @@ impl yaml_kept_text_t {
         } = self;
         match own {
             Some(bytes) => owned_text(encoding, bytes),
-            None => borrowed_text(&input[start..start + len]),
+            None => borrowed_text(encoding, &input[start..start + len]),
         }
+    }
+}
+
+/// What is kept of a text in UTF-8: it is that part of the input.
+#[inline(always)]
+pub(crate) fn kept_part(start: usize, len: usize) -> yaml_kept_text_t
+    ensures { result ≡ record { encoding = YAML_UTF8_ENCODING; own = None; start = start; len = len } }
+{
+    yaml_kept_text_t {
+        encoding: yaml_encoding_t::YAML_UTF8_ENCODING,
+        own: None,
+        start,
+        len,
+    }
+}
+
+/// What is kept of a text with bytes of its own.
+#[inline(always)]
+pub(crate) fn kept_bytes(encoding: yaml_encoding_t, bytes: Vec<u8>) -> yaml_kept_text_t
+    requires { encoding ≢ YAML_ANY_ENCODING }
+    ensures { result ≡ record { encoding = encoding; own = Some bytes.items; start = 0; len = 0 } }
+{
+    yaml_kept_text_t {
+        encoding,
+        own: Some(bytes),
+        start: 0,
+        len: 0,
     }
 }
