@@ -65,18 +65,17 @@ pub(crate) fn send_or_wait<S: yaml_token_sink_t>(
 
 /// Gives the next token, which is at the head of the queue, to a sink. With the stream end the session is over.
 #[inline(always)]
-fn give_settled<S: yaml_token_sink_t>(session: &mut session_t, sink: &mut S)
-    ghost text: { Text }
-    requires at { (i : Scan) × HasSettled i text session.old }
+fn give_settled<S: yaml_token_sink_t>(text: &yaml_text_t, session: &mut session_t, sink: &mut S)
+    requires at { (i : Scan) × HasSettled i text.now session.old }
     requires takes { S.may_refuse → ⊥ }
-    ensures gives { (i : Scan) → HasSettled i text session.old
+    ensures gives { (i : Scan) → HasSettled i text.now session.old
         → (x : Token) × S.took sink.old (x ∷ []) sink.new × (x ≡ token_shown (shown_in i session.old.state))
         × GoesOnTo i (with_session i session.new) (x ∷ []) }
-    ensures fewer { length (all_in (scanner_of text session.new.state)) - session.new.state.taken
-        < length (all_in (scanner_of text session.old.state)) - session.old.state.taken }
+    ensures fewer { length (all_in (scanner_of text.now session.new.state)) - session.new.state.taken
+        < length (all_in (scanner_of text.now session.old.state)) - session.old.state.taken }
 {
     session.peeked = false;
-    session.over = match give_next(&mut session.state, sink) {
+    session.over = match give_next(text, &mut session.state, sink) {
         Ok(last) => last,
         Err(_) => unreachable!(),
     };
@@ -106,7 +105,7 @@ fn give_or_show<S: yaml_token_sink_t>(
         session.show();
         return Ok(false);
     }
-    give_settled(session, sink);
+    give_settled(text, session, sink);
     Ok(has_more(session, sink))
 }
 

@@ -71,10 +71,9 @@ fn send_or_settle<S: yaml_token_sink_t>(
 /// Whether all tokens of the group at the head of the queue are settled, and the sink has room for them. The stream end
 /// is not among them.
 #[inline(always)]
-fn is_ready<S: yaml_token_sink_t>(state: &state_t, sink: &S) -> bool
-    ghost text: { Text }
-    requires runs { IsRunning (scanner_of text state.now) }
-    ensures { result ≡ true → (y : group_t) × IsReadyGroup (scanner_of text state.now) y
+fn is_ready<S: yaml_token_sink_t>(_text: &yaml_text_t, state: &state_t, sink: &S) -> bool
+    requires runs { IsRunning (scanner_of _text.now state.now) }
+    ensures { result ≡ true → (y : group_t) × IsReadyGroup (scanner_of _text.now state.now) y
         × (S.within sink.now → (after : S) → S.took sink.now (group_tokens y) after → S.within after) }
 {
     let queue = &state.layout.queue;
@@ -90,14 +89,13 @@ fn is_ready<S: yaml_token_sink_t>(state: &state_t, sink: &S) -> bool
 
 /// Takes the group at the head of the queue.
 #[inline(always)]
-fn take_group(state: &mut state_t) -> group_t
-    ghost text: { Text }
-    requires runs { IsRunning (scanner_of text state.old) }
-    requires still_open { IsOpen (scanner_of text state.old) }
-    requires ready { (y : group_t) × IsReadyGroup (scanner_of text state.old) y }
-    requires words { HaveWords (told_all (scanner_of text state.old)) }
-    ensures head { groups_in (scanner_of text state.old) ≡ result ∷ groups_in (scanner_of text state.new) }
-    ensures drains { Drains (scanner_of text state.old) (scanner_of text state.new) (group_tokens result) }
+fn take_group(_text: &yaml_text_t, state: &mut state_t) -> group_t
+    requires runs { IsRunning (scanner_of _text.now state.old) }
+    requires still_open { IsOpen (scanner_of _text.now state.old) }
+    requires ready { (y : group_t) × IsReadyGroup (scanner_of _text.now state.old) y }
+    requires words { HaveWords (told_all (scanner_of _text.now state.old)) }
+    ensures head { groups_in (scanner_of _text.now state.old) ≡ result ∷ groups_in (scanner_of _text.now state.new) }
+    ensures drains { Drains (scanner_of _text.now state.old) (scanner_of _text.now state.new) (group_tokens result) }
     ensures words { HasWords (token_of result.token).token_data }
 {
     let group = state.layout.queue.groups.pop_front().unwrap();
@@ -109,22 +107,25 @@ fn take_group(state: &mut state_t) -> group_t
 /// Takes the group at the head of the queue, and gives all of it to a sink. A token that is a group alone goes a way of
 /// its own, so that it is moved once.
 #[inline(always)]
-fn give_ready<S: yaml_token_sink_t>(state: &mut state_t, sink: &mut S) -> Result<(), stop_t>
-    ghost text: { Text }
-    requires runs { IsRunning (scanner_of text state.old) }
-    requires still_open { IsOpen (scanner_of text state.old) }
-    requires ready { (y : group_t) × IsReadyGroup (scanner_of text state.old) y }
-    requires words { HaveWords (told_all (scanner_of text state.old)) }
+fn give_ready<S: yaml_token_sink_t>(
+    text: &yaml_text_t,
+    state: &mut state_t,
+    sink: &mut S,
+) -> Result<(), stop_t>
+    requires runs { IsRunning (scanner_of text.now state.old) }
+    requires still_open { IsOpen (scanner_of text.now state.old) }
+    requires ready { (y : group_t) × IsReadyGroup (scanner_of text.now state.old) y }
+    requires words { HaveWords (told_all (scanner_of text.now state.old)) }
     ensures { (y : group_t)
-        × (groups_in (scanner_of text state.old) ≡ y ∷ groups_in (scanner_of text state.new))
-        × Drains (scanner_of text state.old) (scanner_of text state.new) (group_tokens y)
+        × (groups_in (scanner_of text.now state.old) ≡ y ∷ groups_in (scanner_of text.now state.new))
+        × Drains (scanner_of text.now state.old) (scanner_of text.now state.new) (group_tokens y)
         × Gives (λ tokens. S.took sink.old tokens sink.new) S.may_refuse (group_tokens y) result }
 {
     if state.layout.queue.is_bare() {
-        let group = take_group(state);
+        let group = take_group(text, state);
         give(sink, group.token)
     } else {
-        let group = take_group(state);
+        let group = take_group(text, state);
         give_group(sink, group)
     }
 }
@@ -132,13 +133,12 @@ fn give_ready<S: yaml_token_sink_t>(state: &mut state_t, sink: &mut S) -> Result
 /// Gives groups from the head of the queue to a sink, while all tokens of the group there are settled and the sink has
 /// room for them. Returns whether it gave any.
 #[inline(always)]
-fn drain<S: yaml_token_sink_t>(state: &mut state_t, sink: &mut S) -> bool
-    ghost text: { Text }
-    requires runs { IsRunning (scanner_of text state.old) }
-    requires still_open { IsOpen (scanner_of text state.old) }
-    requires words { HaveWords (told_all (scanner_of text state.old)) }
+fn drain<S: yaml_token_sink_t>(text: &yaml_text_t, state: &mut state_t, sink: &mut S) -> bool
+    requires runs { IsRunning (scanner_of text.now state.old) }
+    requires still_open { IsOpen (scanner_of text.now state.old) }
+    requires words { HaveWords (told_all (scanner_of text.now state.old)) }
     requires takes { S.may_refuse → ⊥ }
-    ensures drains { DrainsOrStays (scanner_of text state.old) (scanner_of text state.new)
+    ensures drains { DrainsOrStays (scanner_of text.now state.old) (scanner_of text.now state.new)
         (λ tokens. S.took sink.old tokens sink.new) result }
     ensures within { S.within sink.old → S.within sink.new }
 {
@@ -146,8 +146,8 @@ fn drain<S: yaml_token_sink_t>(state: &mut state_t, sink: &mut S) -> bool
         return false;
     }
     let mut any = false;
-    'groups: while is_ready(state, sink) {
-        match give_ready(state, sink) {
+    'groups: while is_ready(text, state, sink) {
+        match give_ready(text, state, sink) {
             Ok(_) => any = true,
             Err(_) => unreachable!(),
         }
@@ -175,7 +175,7 @@ pub(crate) fn send_on<S: yaml_token_sink_t>(
     if !send_or_settle(text, state, sink)? {
         return Ok(false);
     }
-    Ok(!drain(state, sink))
+    Ok(!drain(text, state, sink))
 }
 
 /// A token that is returned. This is called and not inlined, since else what goes to the sink is put together a few
@@ -284,14 +284,14 @@ fn give_taken<S: yaml_token_sink_t>(sink: &mut S, token: yaml_token_t) -> Result
 /// is taken gives it by itself, so that the compiler moves it once.
 #[inline(always)]
 pub(crate) fn give_next<S: yaml_token_sink_t>(
+    _text: &yaml_text_t,
     state: &mut state_t,
     sink: &mut S,
 ) -> Result<bool, stop_t>
-    ghost text: { Text }
-    requires runs { IsRunning (scanner_of text state.old) }
-    requires settled { state.old.taken < length (before state.old.limit (history (scanner_of text state.old))) }
-    requires words { (t : Scanner) (x : Token) → Pops (scanner_of text state.old) t x → HasWords x.token_data }
-    ensures { (x : Token) × Pops (scanner_of text state.old) (scanner_of text state.new) x
+    requires runs { IsRunning (scanner_of _text.now state.old) }
+    requires settled { state.old.taken < length (before state.old.limit (history (scanner_of _text.now state.old))) }
+    requires words { (t : Scanner) (x : Token) → Pops (scanner_of _text.now state.old) t x → HasWords x.token_data }
+    ensures { (x : Token) × Pops (scanner_of _text.now state.old) (scanner_of _text.now state.new) x
         × GivesNext (λ tokens. S.took sink.old tokens sink.new) S.may_refuse x result }
 {
     state.taken += 1;
@@ -324,7 +324,7 @@ fn give_rest<S: yaml_token_sink_t>(
     let mut last = false;
     'tokens: while !last {
         settle_to(text, state, sink)?;
-        last = match give_next(state, sink) {
+        last = match give_next(text, state, sink) {
             Ok(last) => last,
             Err(stop) => return Err(stopped(stop)),
         };
@@ -344,7 +344,8 @@ fn give_all<S: yaml_token_sink_t>(
         state.new.fault result }
 {
     let kept = begin(state, input, setting)?;
-    give_rest(&kept.view(input), state, sink)
+    let text = kept.view(input);
+    give_rest(&text, state, sink)
 }
 
 /// Gives all tokens of an input to a sink, in order: to STREAM-END, or those before its fault, and returns the fault.

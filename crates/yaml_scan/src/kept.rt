@@ -1,6 +1,6 @@
 //! A scanner without an input: all that is kept between two calls, each of which is given the same input. It is public
 //! as `yaml_kept_parser_t`, what is kept of a parser whose input was let go.
-ghost use Rattle.std.specs.Prelude.{◌≡◌, ◌≤◌, ◌×◌, Some, Ok, true, false, [], List, ℕ, option_map, MatchResult};
+ghost use Rattle.std.specs.Prelude.{◌≡◌, ◌≤◌, ◌⊎◌, Some, Ok, true, false, [], List, ℕ, option_map, MatchResult};
 ghost use Rattle.yaml_text.specs.Decode.{front};
 ghost use Rattle.yaml_text.specs.Fault.{Fault, fault_of};
 ghost use Rattle.yaml_text.specs.Kept.{IsKeptOf};
@@ -169,7 +169,8 @@ impl yaml_kept_parser_t {
             return Ok(());
         }
         self.start(input)?;
-        settle_head(&self.text.view(input), &mut self.session.state)
+        let text = self.text.view(input);
+        settle_head(&text, &mut self.session.state)
     }
 
     /// Takes the next token; after the end of the session the empty one. Returns the fault that ends the session, once.
@@ -229,7 +230,8 @@ impl yaml_kept_parser_t {
         ensures within { S.within sink.old → S.within sink.new }
     {
         self.start(input)?;
-        send_or_wait(&self.text.view(input), &mut self.session, sink)
+        let text = self.text.view(input);
+        send_or_wait(&text, &mut self.session, sink)
     }
 
     /// Gives the next tokens to a sink that has room for one, until the stream end was given or it has no room for the
@@ -244,7 +246,8 @@ impl yaml_kept_parser_t {
         ensures within { S.within sink.old → S.within sink.new }
     {
         self.start(input)?;
-        give_while_room(&self.text.view(input), &mut self.session, sink)
+        let text = self.text.view(input);
+        give_while_room(&text, &mut self.session, sink)
     }
 }
 

@@ -11,6 +11,7 @@ ghost use Rattle.yaml_scan.specs.Headline.{Calls};
 ghost use Rattle.yaml_scan.specs.Parser.{Parser};
 ghost use Rattle.yaml_scan.specs.ParserCalls.{input_read, course_read, answered, after_call, scan_result, token_shown};
 ghost use Rattle.yaml_scan.specs.ParserCalls.{IsThere, IsRefusedAtStart, peek_result, copied};
+ghost use Rattle.yaml_scan.specs.inside.Shown.{Shows};
 ghost use Rattle.yaml_scan.specs.CallMarks.{IsCountedIn, ReachesTo};
 ghost use Rattle.yaml_scan.specs.Session.Call.{SKIP, SCAN, PEEK};
 ghost use Rattle.yaml_scan.specs.Peek.{OnceLetGo};
@@ -83,6 +84,14 @@ impl<'a> yaml_parser_t<'a> {
         }
     }
 
+    /// Makes the steps that the next token needs, and has it shown. `false` if the session ended with a fault instead.
+    #[inline(always)]
+    fn show(&mut self) -> bool
+        ensures { Shows self.old result self.new }
+    {
+        self.scanner.show(self.input)
+    }
+
     /// The fault that has ended the session.
     fn last_fault(&self) -> yaml_fault_t
         requires { (f : Fault) × (self.now.session.fault ≡ Some f) }
@@ -140,7 +149,7 @@ pub fn yaml_parser_peek<'s>(
     ensures local { IsAnsweredAlike parser.old PEEK (peek_result (copied result)) }
     ensures marks { IsCountedIn parser.old (peek_result (copied result)) }
 {
-    if parser.scanner.show(parser.input) {
+    if parser.show() {
         Ok(parser.shown())
     } else {
         Err(parser.last_fault())

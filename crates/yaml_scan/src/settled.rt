@@ -21,10 +21,9 @@ use yaml_text::yaml_text_t;
 /// Whether the head of the queue is the next token.
 #[inline(always)]
 pub(crate) fn is_settled(state: &state_t) -> bool
-    ghost text: { Text }
-    requires { IsRunning (scanner_of text state.now) }
-    ensures { result ≡ nat_lt state.now.taken (length (before state.now.limit
-        (history (scanner_of text state.now)))) }
+    requires { (text : Text) × IsRunning (scanner_of text state.now) }
+    ensures { (text : Text) → IsRunning (scanner_of text state.now)
+        → result ≡ nat_lt state.now.taken (length (before state.now.limit (history (scanner_of text state.now)))) }
 {
     !state.layout.queue.groups.is_empty() && !is_awaited(state)
 }

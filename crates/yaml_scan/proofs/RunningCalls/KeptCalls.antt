@@ -1,36 +1,44 @@
 -- The calls of a scanner over an input: how they begin, and what they leave.
-use Rattle.std.proofs.Common.{◌≡◌, ℕ, ◌≤◌, ◌<◌, Bool, true, false, List, [], ◌∷◌, ◌++◌, length, drop, get_or, Option, Some, None, Err, refl, ap, sym, ◌∙◌, subst, arith}
-use Rattle.std.specs.Prelude.{◌⊎◌}
+use Rattle.std.proofs.Common.{◌≡◌, ℕ, ◌≤◌, ◌<◌, Bool, true, false, not, List, [], ◌∷◌, ◌++◌, length, drop, get_or, Option, Some, None, Err, refl, ap, sym, ◌∙◌, subst, arith}
+use Rattle.std.specs.Prelude.{◌⊎◌, MatchResult, Result, Ok}
 use Rattle.std.proofs.lemmas.Bool.{false≢true}
-use Rattle.yaml_text.specs.Fault.{Fault, fault_of}
+use Rattle.yaml_text.specs.Fault.{Fault, fault_of, memory_fault}
 use Rattle.yaml_text.specs.Decode.{front}
 use Rattle.yaml_text.specs.Kept.{IsKeptOf}
 use Rattle.yaml_text.specs.Text.{Text}
 use Rattle.yaml_text.specs.Token.{token_of}
 use Rattle.yaml_text.specs.declared.fault.yaml_fault_t.{yaml_fault_t}
+use Rattle.yaml_text.specs.declared.types.yaml_encoding_t.{yaml_encoding_t}
+use Rattle.yaml_scan.specs.declared.stop.stop_t.{stop_t}
 use Rattle.yaml_scan.specs.declared.groups.group_t.{group_t}
 use Rattle.yaml_scan.specs.declared.kept.yaml_kept_parser_t.{yaml_kept_parser_t}
 use Rattle.yaml_scan.specs.declared.session.session_t.{session_t}
 use Rattle.yaml_scan.specs.declared.scanner.state_t.{state_t}
 use Rattle.yaml_scan.specs.Decoded.{decoded_input}
 use Rattle.yaml_scan.specs.Headline.{Calls}
-use Rattle.yaml_scan.specs.KeptCalls.{ComesFirst, GivesMore, GivesToFault, token_peeked}
+use Rattle.yaml_scan.specs.KeptCalls.{ComesFirst, GivesMore, GivesToFault, HasNoMoreRoom, token_peeked}
 use Rattle.yaml_scan.specs.Parser.{Parser}
 use Rattle.yaml_scan.specs.ParserCalls.{scan_result, token_shown}
 use Rattle.yaml_scan.specs.Scanned.{GoesOnBy, Scanned}
 use Rattle.yaml_scan.specs.Session.{Call}
 use Rattle.yaml_scan.specs.Session.Call.{PEEK, SCAN}
-use Rattle.yaml_scan.specs.Session.Answer.{FAULT}
+use Rattle.yaml_scan.specs.Session.Answer.{FAULT, PEEKED}
 use Rattle.yaml_scan.specs.Token.{yaml_token_t}
 use Rattle.yaml_scan.specs.Groups.{offline}
 use Rattle.yaml_scan.specs.inside.Queue.{pending}
-use Rattle.yaml_scan.specs.inside.Scanning.{history}
+use Rattle.yaml_scan.specs.inside.Scanning.{Fails, Stops, history}
+use Rattle.yaml_scan.specs.inside.Scanning as Scanning
 use Rattle.yaml_scan.specs.inside.Kept.{IsKept, IsScannerOf, scan_of}
-use Rattle.yaml_scan.specs.inside.KeptParts.{EndsNow, GoesOnTo, HasBegun, StopsAfter, StopsNow, on_to}
+use Rattle.yaml_scan.specs.inside.KeptEnds.{KeepsText}
+use Rattle.yaml_scan.specs.inside.KeptEnds as KeptEnds
+use Rattle.yaml_scan.specs.inside.KeptParts.{EndsNow, GivesAllOn, GoesOnTo, HasBegun, HasSettled, SendsNext, ShowsTo, StopsAfter, StopsNow, on_to}
 use Rattle.yaml_scan.specs.inside.Ready.{Begins, IsEnded, IsNew, IsShort, IsStopped, Scan, Sound, ended_by, fault_in, parser_of, scanner_in, with_session}
 use Rattle.yaml_scan.specs.inside.Scanner.{Scanner, scanner_of}
-use Rattle.yaml_scan.proofs.RunningCalls.CallAnswers.{head_shown, open_session, scan_faulty, scan_not_shown, show_fault_on}
+use Rattle.yaml_scan.specs.inside.Shown.{Shows}
+use Rattle.yaml_scan.specs.inside.Stop.{fault_at}
+use Rattle.yaml_scan.proofs.RunningCalls.CallAnswers.{head_shown, open_session, scan_faulty, scan_not_shown, show_fault_on, show_over, shown_settled}
 use Rattle.yaml_scan.proofs.RunningCalls.KeptGoesOn.{first_when, is_shown, on_none}
+use Rattle.yaml_scan.proofs.RunningCalls.KeptTokens.{settles_next}
 use Rattle.yaml_scan.proofs.RunningCalls.ParserInvariant.{keeps_stopped, reach_stopped, stands_ready}
 use Rattle.yaml_scan.proofs.RunningCalls.ScansToTheEnd.{scans_fault}
 use Rattle.yaml_scan.proofs.RunningCalls.TakingHead.{groups_some}
@@ -47,6 +55,18 @@ is_kept input k w = record { is = w; seen_as = refl }
 
 pub over_is : (p : Parser) (k : yaml_kept_parser_t) → IsKept p k → k.session.over ≡ p.session.over
 over_is p k w = ap (λ (z : Parser). z.session.over) w.seen_as
+
+is_true : (r : Bool) → not r ≡ false → r ≡ true
+is_true true n = refl
+is_true false n = absurd (false≢true (sym n))
+
+is_false : (r : Bool) → not r ≡ true → r ≡ false
+is_false false n = refl
+is_false true n = absurd (false≢true n)
+
+unless : (b : Bool) → (b ≡ true → ⊥) → b ≡ false
+unless true f = absurd (f refl)
+unless false f = refl
 
 -- THE FIRST STEP
 module _ (i : Scan) (v : Sound i) (o : i.session.over ≡ false) where
@@ -194,3 +214,163 @@ peek_to_fault i j same o e =
       reads = λ before h. scans_fault P.limit P.setting P.input P (before ++ []) (on_none P before h) e.fault (parser_of j) z;
       first = first_at_end (token_peeked P) [] P (parser_of j) e.not_peeked (first_when P P [] (λ n. is_shown P n));
     }
+
+-- WHAT IS LEFT OF A SCANNER, WHOSE SETTING STAYS
+abbrev pub with_its : yaml_kept_parser_t → session_t → yaml_kept_parser_t
+with_its l s = record { setting = l.setting; text = l.text; session = s }
+
+module _ (input : List ℕ) (k l : yaml_kept_parser_t) (same : l.setting ≡ k.setting) (s : session_t) where
+  abbrev pub then_as : Scan
+  then_as = with_session (scan_of input k) s
+
+  pub at_setting : (P : Scan → Type 0) → P then_as → P (scan_of input (with_its l s))
+  at_setting P w = subst (λ (z : yaml_encoding_t). P (record { setting = z; input = input; session = s })) (sym same) w
+
+-- its text is kept
+pub is_left_so : (input : List ℕ) (k l : yaml_kept_parser_t) → KeepsText input k l → Sound (scan_of input l) → IsScannerOf input l
+is_left_so input k l z v = record { sound = v; text = λ o m. subst (λ (e : yaml_encoding_t). IsKeptOf (front e input) input l.text) (sym z.setting) z.text }
+
+module _ (input : List ℕ) (k l : yaml_kept_parser_t) (z : KeepsText input k l) where
+  pub is_left : (s : session_t) → Sound (with_session (scan_of input k) s) → IsScannerOf input (with_its l s)
+  is_left s v = record {
+    sound = at_setting input k l z.setting s Sound v;
+    text = λ o m. subst (λ (e : yaml_encoding_t). IsKeptOf (front e input) input l.text) (sym z.setting) z.text;
+  }
+
+-- it has stopped, after the session `last`, and the fault w ends the session
+module _ (input : List ℕ) (k l : yaml_kept_parser_t) (same : l.setting ≡ k.setting) (last : session_t) (w : yaml_fault_t) (f : Fault) (d : fault_of w ≡ f) (n : StopsNow (with_session (scan_of input k) last) l.session f) (s : session_t) (left : s ≡ ended_by l.session w) where
+  pub stopped_left : IsScannerOf input (with_its l s)
+  stopped_left = record {
+    sound = at_setting input k l same s Sound (subst (λ (z : session_t). Sound (with_session (scan_of input k) z)) (sym left) (ended_sound (with_session (scan_of input k) last) l.session w f d n));
+    text = λ o m. absurd (false≢true (sym o ∙ ap (λ (z : session_t). z.over) left));
+  }
+
+  abbrev Q : Parser
+  Q = parser_of (scan_of input (with_its l s))
+
+  at_end : (P : Parser → Type 0) → P (parser_of (with_session (scan_of input k) (ended_by l.session w))) → P Q
+  at_end P c = at_setting input k l same s (λ i. P (parser_of i)) (subst (λ (z : session_t). P (parser_of (with_session (scan_of input k) z))) (sym left) c)
+
+  pub scan_stops : Calls decoded_input SCAN (parser_of (with_session (scan_of input k) last)) (scan_result (Err w)) Q
+  scan_stops = at_end (λ q. Calls decoded_input SCAN (parser_of (with_session (scan_of input k) last)) (scan_result (Err w)) q) (scan_ends (with_session (scan_of input k) last) l.session w f d n)
+
+  pub ends_so : EndsNow (with_session (scan_of input k) last) (scan_of input (with_its l s))
+  ends_so = at_setting input k l same s (λ i. EndsNow (with_session (scan_of input k) last) i) (subst (λ (z : session_t). EndsNow (with_session (scan_of input k) last) (with_session (scan_of input k) z)) (sym left) (ends_now (with_session (scan_of input k) last) l.session w f d n))
+
+  pub fault_is : Q.session.fault ≡ Some (fault_of w)
+  fault_is = at_end (λ q. q.session.fault ≡ Some (fault_of w)) refl
+
+  -- after a sink was given some tokens
+  pub gives_to_fault : (tokens : List yaml_token_t) → GoesOnBy (parser_of (scan_of input k)) tokens (parser_of (with_session (scan_of input k) last)) false → ComesFirst (token_peeked (parser_of (scan_of input k))) tokens (parser_of (with_session (scan_of input k) last))
+      → k.session.over ≡ false → (took : List yaml_token_t → Type 0) → took tokens → GivesToFault SCAN (parser_of (scan_of input k)) Q took (fault_of w)
+  gives_to_fault tokens on first o took given = at_end (λ q. GivesToFault SCAN (parser_of (scan_of input k)) q took (fault_of w))
+      (scan_to_fault (scan_of input k) l.session tokens w f d (record { last = last; stops = n; on = on; first = first }) o took given)
+
+-- THE NEXT TOKEN IS AT THE HEAD OF THE QUEUE
+-- it was shown before
+pub settled_shown : (input : List ℕ) (k : yaml_kept_parser_t) → IsScannerOf input k → k.session.peeked ≡ true → KeepsText input k k × HasSettled (scan_of input k) (front k.setting input) k.session
+settled_shown input k r e =
+    let v = r.sound in
+    let p = v.peeked e in
+    let h = p.1 in (
+      record { setting = refl; text = r.text p.0 (let b = h.stands.runs.begun in b) },
+      record { sound = v; still_open = p.0; settled = shown_settled k.setting input (scanner_in (scan_of input k)) h; rest = refl },
+    )
+
+-- it is there after some steps, over the text that was kept
+pub settles_over : (input : List ℕ) (k l : yaml_kept_parser_t) → KeepsText input k l → HasBegun (scan_of input k) (front k.setting input) l.session → k.session.peeked ≡ false
+    → (state : state_t) (T : Text) → T ≡ front k.setting input → (result : Result (Unit {0}) stop_t)
+    → MatchResult result (λ _. Scanning.Settles (scanner_of T l.session.state) (scanner_of T state)) (λ stop. ((fault_at stop state.fault ≡ memory_fault) ⊎ Fails (scanner_of T l.session.state) (scanner_of T state) (fault_at stop state.fault)) × Stops (scanner_of T l.session.state) (scanner_of T state))
+    → KeptEnds.Settles input k (with_its l (on_to l.session state)) result
+settles_over input k l z b n state T e (Ok x) w =
+    (record { setting = z.setting; text = z.text }, settles_next (scan_of input k) l.session state b n (Ok x) (subst (λ (y : Text). Scanning.Settles (scanner_of y l.session.state) (scanner_of y state)) e w))
+settles_over input k l z b n state T e (Err stop) w =
+    (z.setting, settles_next (scan_of input k) l.session state b n (Err stop) (subst (λ (y : Text). ((fault_at stop state.fault ≡ memory_fault) ⊎ Fails (scanner_of y l.session.state) (scanner_of y state) (fault_at stop state.fault)) × Stops (scanner_of y l.session.state) (scanner_of y state)) e w))
+
+-- WHAT WENT TO A SINK
+module _ (input : List ℕ) (k l : yaml_kept_parser_t) (z : KeepsText input k l) (s : session_t) where
+  kept_too : KeepsText input k (with_its l s)
+  kept_too = record { setting = z.setting; text = z.text }
+
+  pub sends_over : (took : List yaml_token_t → Type 0) (result : Result Bool stop_t) → SendsNext (scan_of input k) (front k.setting input) s took result → KeptEnds.Sends input k (with_its l s) took result
+  sends_over took (Ok true) w = (kept_too, (λ e. w), λ e. absurd (false≢true (sym e)))
+  sends_over took (Ok false) w = (
+    kept_too,
+    (λ e. absurd (false≢true e)),
+    λ e. (w.0, w.1, w.2.some, at_setting input k l z.setting s (λ j. GoesOnTo (scan_of input k) j w.0) w.3, w.4),
+  )
+  sends_over took (Err stop) w = ((z.setting, w.0), w.1)
+
+  pub gives_over : (took : List yaml_token_t → Type 0) (lacks : ℕ → ℕ → Type 0) (result : Result (Unit {0}) stop_t) → GivesAllOn (scan_of input k) s took lacks result → KeptEnds.Gives input k (with_its l s) took lacks result
+  gives_over took lacks (Ok x) w = (
+    kept_too,
+    (w.0, w.1, at_setting input k l z.setting s (λ j. GoesOnTo (scan_of input k) j w.0) w.2, at_setting input k l z.setting s (λ j. HasNoMoreRoom lacks (parser_of j)) w.3),
+  )
+  gives_over took lacks (Err stop) w = (w.0, w.1, record { setting = z.setting; stops = w.2 })
+
+-- A PEEK
+module _ (p : Parser) (input : List ℕ) (k l : yaml_kept_parser_t) (e : p.input ≡ input) (w : IsKept p k) (r : Bool) (is : IsScannerOf input l) (over : k.session.over ≡ true → (r ≡ true) × (l ≡ k)) where
+  abbrev pub i : Scan
+  i = scan_of input k
+
+  abbrev pub j : Scan
+  j = scan_of input l
+
+  seen : parser_of i ≡ p
+  seen = (over_this p input k e w).1
+
+  idle : (b : Bool) → p.session.peeked ≡ b → p.session.over ≡ true → b ≡ false
+  idle false d o = refl
+  idle true d o = absurd (let v = w.is.sound in false≢true (sym (v.peeked (ap (λ (z : Parser). z.session.peeked) w.seen_as ∙ d)).0 ∙ over_is p k w ∙ o))
+
+  abbrev pub ShownAs : Type 0
+  ShownAs = (q : Parser) × IsKept q l × Calls decoded_input PEEK p (PEEKED (token_shown q)) q × GoesOnBy p [] q p.session.over
+      × (p.session.over ≡ false → q.session.peeked ≡ true) × (p.session.over ≡ true → q ≡ p)
+
+  pub peeks_kept : not r ≡ false → (r ≡ true → k.session.over ≡ false → ShowsTo i j) → ShownAs
+  peeks_kept n shows = go k.session.over refl
+    where
+      shown : r ≡ true
+      shown = is_true r n
+
+      go : (b : Bool) → k.session.over ≡ b → ShownAs
+      go false o =
+          let s = shows shown o in
+          let d = sym (over_is p k w) ∙ o in
+          let on = subst (λ (z : Parser). GoesOnBy z [] (parser_of j) j.session.over) seen s.stands.on in (
+            parser_of j,
+            is_kept input l is,
+            subst (λ (z : Parser). Calls decoded_input PEEK z (PEEKED (token_shown (parser_of j))) (parser_of j)) seen s.call,
+            subst (λ (b : Bool). GoesOnBy p [] (parser_of j) b) (s.still_open ∙ sym d) on,
+            λ m. s.peeked,
+            λ m. absurd (false≢true (sym d ∙ m)),
+          )
+      go true o =
+          let d = sym (over_is p k w) ∙ o in (
+            p,
+            subst (λ (z : yaml_kept_parser_t). IsKept p z) (sym (over o).1) w,
+            show_over p d (idle p.session.peeked refl d),
+            λ given h. subst (λ (b : Bool). Scanned p.limit p.setting p.input p (given ++ []) b) (sym h.over) (on_none p given h),
+            λ m. absurd (false≢true (sym m ∙ d)),
+            λ m. refl,
+          )
+
+  pub peeks_to_fault : not r ≡ true → (r ≡ false → EndsNow i j) → (q : Parser) × IsKept q l × (fault : Fault) × (q.session.fault ≡ Some fault) × GivesToFault PEEK p q (λ tokens. tokens ≡ []) fault
+  peeks_to_fault n ends =
+      let f = is_false r n in
+      let x = ends f in
+      (parser_of j, is_kept input l is, fault_of x.fault, x.kept, subst (λ (z : Parser). GivesToFault PEEK z (parser_of j) (λ tokens. tokens ≡ []) (fault_of x.fault)) seen (peek_to_fault i j refl (unless k.session.over (λ o. false≢true (sym f ∙ (over o).0))) x))
+
+-- of a parser
+pub shows_so : (p : Parser) (input : List ℕ) (k l : yaml_kept_parser_t) → parser_of (scan_of input k) ≡ p → IsScannerOf input k → (r : Bool) → (k.session.over ≡ true → (r ≡ true) × (l ≡ k))
+    → (r ≡ true → k.session.over ≡ false → ShowsTo (scan_of input k) (scan_of input l)) → (r ≡ false → EndsNow (scan_of input k) (scan_of input l)) → Shows p r (parser_of (scan_of input l))
+shows_so p input k l seen w false over shows ends = let x = ends refl in (fault_of x.fault, x.kept, subst (λ (z : Parser). Calls decoded_input PEEK z (FAULT (fault_of x.fault)) (parser_of (scan_of input l))) seen x.call)
+shows_so p input k l seen w true over shows ends = go k.session.over refl
+  where
+    go : (b : Bool) → k.session.over ≡ b → Shows p true (parser_of (scan_of input l))
+    go false o = let s = shows refl o in subst (λ (z : Parser). Calls decoded_input PEEK z (PEEKED (token_shown (parser_of (scan_of input l)))) (parser_of (scan_of input l))) seen s.call
+    go true o =
+        let v = w.sound in
+        let q = parser_of (scan_of input k) in
+        let d = show_over q o (unless k.session.peeked (λ e. false≢true (sym (v.peeked e).0 ∙ o))) in
+        subst (λ (z : yaml_kept_parser_t). Shows p true (parser_of (scan_of input z))) (sym (over o).1) (subst (λ (z : Parser). Shows z true q) seen d)

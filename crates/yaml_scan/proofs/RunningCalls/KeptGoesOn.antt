@@ -18,7 +18,7 @@ use Rattle.yaml_scan.specs.Session.Call.{PEEK}
 use Rattle.yaml_scan.specs.Session.Answer.{PEEKED}
 use Rattle.yaml_scan.specs.Sessions.{after_all, new_session, settled_tokens}
 use Rattle.yaml_scan.specs.Settled.{pace, tokens_of}
-use Rattle.yaml_scan.specs.Token.{yaml_token_t, type_of}
+use Rattle.yaml_scan.specs.Token.{yaml_token_t, empty, type_of}
 use Rattle.yaml_scan.specs.TokenTypes.{is_last_type}
 use Rattle.yaml_scan.proofs.Course.InputLaws.{inputs_keep_order}
 use Rattle.yaml_scan.proofs.RunningCalls.MemoryRefused.{asked_settled, asked_within}
@@ -59,6 +59,27 @@ is_shown p e = go p.session.peeked e
     go : (b : Bool) → b ≡ true → (if b then Some (token_shown p) else None) ≡ Some (token_shown p)
     go true e = refl
     go false e = absurd (false≢true e)
+
+pub none_shown : (p : Parser) → p.session.peeked ≡ false → token_peeked p ≡ None
+none_shown p e = go p.session.peeked e
+  where
+    go : (b : Bool) → b ≡ false → (if b then Some (token_shown p) else None) ≡ None
+    go false e = refl
+    go true e = absurd (false≢true (sym e))
+
+pub some_peeked : (p : Parser) (x : yaml_token_t) → Some x ≡ token_peeked p → x ≡ token_shown p
+some_peeked p x e = go p.session.peeked refl
+  where
+    go : (b : Bool) → p.session.peeked ≡ b → x ≡ token_shown p
+    go true d = let z : Some x ≡ Some (token_shown p) = e ∙ is_shown p d in cc
+    go false d = absurd (let z : Some x ≡ None = e ∙ none_shown p d in cc)
+
+pub none_peeked : (p : Parser) → None ≡ token_peeked p → empty ≡ token_shown p
+none_peeked p e = go p.session.peeked refl
+  where
+    go : (b : Bool) → p.session.peeked ≡ b → empty ≡ token_shown p
+    go false d = rw d refl
+    go true d = absurd (let z : None ≡ Some (token_shown p) = e ∙ is_shown p d in cc)
 
 -- A PEEK
 -- calls one after the other

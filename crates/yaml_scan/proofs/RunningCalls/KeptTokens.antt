@@ -266,6 +266,33 @@ module _ (i : Scan) (state : state_t) (k : HasSettled i (front i.setting i.input
     pub takes : Takes i x (with_session i taking)
     takes = record { stands = gives_one; call = call; skips = skips }
 
+-- THE SAME, WHATEVER THE SESSION WAS
+-- its text is the front of the input
+at_front : (i : Scan) (T : Text) (s : session_t) → HasSettled i T s → T ≡ front i.setting i.input
+at_front i T s k = k.settled.stands.text
+
+pub is_front : (i : Scan) (T : Text) (s : session_t) → HasSettled i T s → HasSettled i (front i.setting i.input) (on_to i.session s.state)
+is_front i T s k = subst (λ (z : Text). HasSettled i z (on_to i.session s.state)) (at_front i T s k) (subst (λ (z : session_t). HasSettled i T z) k.rest k)
+
+pub shows_as : (i : Scan) (T : Text) (s : session_t) (lead : code_token_t) → HasSettled i T s → ((e : yaml_encoding_t) → IsLead e s.state.layout.queue (token_of lead))
+    → let j = with_session i (record { state = s.state; lead = lead; peeked = true; over = s.over; failed = s.failed }) in ShowsTo i j × (parser_of j ≡ shown_in i s.state)
+shows_as i T s lead k l =
+    let F : session_t → Scan = λ z. with_session i (record { state = s.state; lead = lead; peeked = true; over = z.over; failed = z.failed }) in
+    subst (λ (z : session_t). ShowsTo i (F z) × (parser_of (F z) ≡ shown_in i s.state)) (sym k.rest) (shows_it i s.state (is_front i T s k) lead (l (front i.setting i.input).encoding))
+
+pub takes_as : (i : Scan) (T : Text) (s : session_t) (state : state_t) (x : yaml_token_t) (last : Bool) → HasSettled i T s → Pops (scanner_of T s.state) (scanner_of T state) x → last ≡ is_last_type (type_of x.token_data)
+    → Takes i x (with_session i (record { state = state; lead = s.lead; peeked = false; over = last; failed = s.failed }))
+takes_as i T s state x last k p e =
+    let F : session_t → Bool → Scan = λ z b. with_session i (record { state = state; lead = z.lead; peeked = false; over = b; failed = z.failed }) in
+    subst (λ (b : Bool). Takes i x (F s b)) (sym e) (subst (λ (z : session_t). Takes i x (F z (is_last_type (type_of x.token_data)))) (sym k.rest)
+        (takes i s.state (is_front i T s k) state x (subst (λ (z : Text). Pops (scanner_of z s.state) (scanner_of z state) x) (at_front i T s k) p)))
+
+pub first_as_shown : (i : Scan) (T : Text) (s : session_t) (x : yaml_token_t) → HasSettled i T s → IsFirst T.encoding (drop s.state.taken (offline (history (scanner_of T s.state)))) x → x ≡ token_shown (shown_in i s.state)
+first_as_shown i T s x k f = first_shown i s.state (is_front i T s k) x (subst (λ (z : Text). IsFirst z.encoding (drop s.state.taken (offline (history (scanner_of z s.state)))) x) (at_front i T s k) f)
+
+pub told_as_shown : (i : Scan) (T : Text) (s : session_t) (state : state_t) (x : yaml_token_t) → HasSettled i T s → Pops (scanner_of T s.state) (scanner_of T state) x → x ≡ token_shown (shown_in i s.state)
+told_as_shown i T s state x k p = taken_shown i s.state (is_front i T s k) state x (subst (λ (z : Text). Pops (scanner_of z s.state) (scanner_of z state) x) (at_front i T s k) p)
+
 -- THE TOKENS OF A STEP, OR OF GROUPS, WENT TO THE SINK
 pub gives_sent : (i : Scan) (state : state_t) (tokens : List yaml_token_t) → Sound i → i.session.over ≡ false → i.session.peeked ≡ false → HasSent i.setting i.input (scanner_in i) (scanner_of (front i.setting i.input) state) tokens
     → GoesOnTo i (with_session i (on_to i.session state)) tokens

@@ -10,8 +10,8 @@ use Rattle.yaml_scan.proofs.RunningCalls.GivenTokens.{told_as}
 use Rattle.yaml_scan.proofs.RunningQueue.GroupTokens.{group_some}
 use Rattle.yaml_scan.proofs.give.drain.Goals as goal
 
-pub give_head-requires-clause-words : goal.give_head-requires-clause-words
-give_head-requires-clause-words g c =
+pub give_ready-requires-clause-words : goal.give_ready-requires-clause-words
+give_ready-requires-clause-words g c =
     let a = (scanner_of c.args.text.now c.args.state.now) in
     let s = (scanner_of c.args.text.now c.groups.state) in
     let w = drained_so_far a s (λ ts. g.S.yaml_token_sink_t.took c.args.sink.now ts c.groups.sink) c.groups.any c.requires.runs c.requires.still_open c.groups.invariant.0 in
@@ -22,7 +22,7 @@ pub groups-preserved : goal.groups-preserved
 groups-preserved g c =
     let a = (scanner_of c.args.text.now c.args.state.now) in
     let s = (scanner_of c.args.text.now c.groups.state) in
-    let t = (scanner_of c.args.text.now c.give_head.new.state) in
+    let t = (scanner_of c.args.text.now c.give_ready.new.state) in
     let h = c.in-Ok.ensures in
     let y = h.0 in
     let took = g.S.yaml_token_sink_t.took in
@@ -34,7 +34,7 @@ groups-preserved g c =
     let e : r.0 ∷ r.1.others ≡ y ∷ groups_in t = sym head ∙ h.1 in
     let f : y ≡ r.0 = cc in
     let b = c.groups.sink in
-    let d = c.give_head.new.sink in (
+    let d = c.give_ready.new.sink in (
       (
         w.0 ++ group_tokens y,
         more_drained a s t w.0 (group_tokens y) w.1 h.2,

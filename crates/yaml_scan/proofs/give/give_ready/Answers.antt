@@ -4,7 +4,7 @@ use Rattle.yaml_scan.specs.Groups.{Token}
 use Rattle.yaml_scan.specs.inside.Scanner.{scanner_of}
 use Rattle.yaml_scan.specs.inside.Handed.{Gives, told_leads}
 use Rattle.yaml_scan.specs.inside.Scanning.{groups_in}
-use Rattle.yaml_scan.proofs.give.give_head.Goals as goal
+use Rattle.yaml_scan.proofs.give.give_ready.Goals as goal
 
 pub returns-then-is_bare : goal.returns-then-is_bare
 returns-then-is_bare g c = let t = c.take_group-group.ensures in let y = c.take_group-group.result in

@@ -17,7 +17,7 @@ steps-init g c = (
 )
 
 pub step_to-requires : goal.step_to-requires
-step_to-requires g c κs within = (search rules, (within, can (scanner_of c.args.text.now c.args.state.now) (scanner_of c.args.text.now c.steps.state) c.steps.invariant.0 c.requires.still_open (ltb-false _ _ (sym c.is_settled.ensures ∙ c.steps-test.true))))
+step_to-requires g c κs within = (search rules, (within, can (scanner_of c.args.text.now c.args.state.now) (scanner_of c.args.text.now c.steps.state) c.steps.invariant.0 c.requires.still_open (ltb-false _ _ (sym (c.is_settled.ensures c.args.text.now c.steps.invariant.0.runs) ∙ c.steps-test.true))))
 
 pub steps-smaller : goal.steps-smaller
 steps-smaller g c =
@@ -25,7 +25,7 @@ steps-smaller g c =
     let s = (scanner_of c.args.text.now c.steps.state) in
     let t = (scanner_of c.args.text.now c.step_to.new.state) in
     let i = c.steps.invariant in
-    elim (goes a s i.0 c.requires.still_open (ltb-false _ _ (sym c.is_settled.ensures ∙ c.steps-test.true)) t (λ ts. g.S.yaml_token_sink_t.took c.steps.sink ts c.step_to.new.sink) g.S.yaml_token_sink_t.may_refuse _ c.in_ok-step_to.ensures.steps) [
+    elim (goes a s i.0 c.requires.still_open (ltb-false _ _ (sym (c.is_settled.ensures c.args.text.now c.steps.invariant.0.runs) ∙ c.steps-test.true)) t (λ ts. g.S.yaml_token_sink_t.took c.steps.sink ts c.step_to.new.sink) g.S.yaml_token_sink_t.may_refuse _ c.in_ok-step_to.ensures.steps) [
       | inl q ↦ (let w = q.0.runs.within in let m = ap (λ (x : Course). length x.read) (course_same a t q.0.same) in let l = q.1 in omega arith)
       | inr q ↦ (let n = i.0.same.done in let m = q.3 in absurd (omega (arith, c.if-state-done.false)))
     ]
@@ -36,7 +36,7 @@ steps-preserved g c =
     let s = (scanner_of c.args.text.now c.steps.state) in
     let t = (scanner_of c.args.text.now c.step_to.new.state) in
     let i = c.steps.invariant in
-    elim (goes a s i.0 c.requires.still_open (ltb-false _ _ (sym c.is_settled.ensures ∙ c.steps-test.true)) t (λ ts. g.S.yaml_token_sink_t.took c.steps.sink ts c.step_to.new.sink) g.S.yaml_token_sink_t.may_refuse _ c.in_ok-step_to.ensures.steps) [
+    elim (goes a s i.0 c.requires.still_open (ltb-false _ _ (sym (c.is_settled.ensures c.args.text.now c.steps.invariant.0.runs) ∙ c.steps-test.true)) t (λ ts. g.S.yaml_token_sink_t.took c.steps.sink ts c.step_to.new.sink) g.S.yaml_token_sink_t.may_refuse _ c.in_ok-step_to.ensures.steps) [
       | inl q ↦ (q.0, g.met.S.yaml_token_sink_t.took_more c.args.sink.now c.steps.sink c.step_to.new.sink [] [] i.1 q.2, λ w. c.in_ok-step_to.ensures.within (i.2 w))
       | inr q ↦ (let n = i.0.same.done in let m = q.3 in absurd (omega (arith, c.if-state-done.false)))
     ]
@@ -47,7 +47,7 @@ returns-then-state-done-clause-sends g c =
     let s = (scanner_of c.args.text.now c.steps.state) in
     let t = (scanner_of c.args.text.now c.step_to.new.state) in
     let i = c.steps.invariant in
-    elim (goes a s i.0 c.requires.still_open (ltb-false _ _ (sym c.is_settled.ensures ∙ c.steps-test.true)) t (λ ts. g.S.yaml_token_sink_t.took c.steps.sink ts c.step_to.new.sink) g.S.yaml_token_sink_t.may_refuse _ c.in_ok-step_to.ensures.steps) [
+    elim (goes a s i.0 c.requires.still_open (ltb-false _ _ (sym (c.is_settled.ensures c.args.text.now c.steps.invariant.0.runs) ∙ c.steps-test.true)) t (λ ts. g.S.yaml_token_sink_t.took c.steps.sink ts c.step_to.new.sink) g.S.yaml_token_sink_t.may_refuse _ c.in_ok-step_to.ensures.steps) [
       | inl q ↦ (let n = q.0.same.done in absurd (omega (arith, c.if-state-done.true)))
       | inr q ↦ (q.0, q.1, g.met.S.yaml_token_sink_t.took_more c.args.sink.now c.steps.sink c.step_to.new.sink [] q.0 i.1 q.2)
     ]
@@ -60,7 +60,7 @@ returns-clause-sends g c =
     let a = (scanner_of c.args.text.now c.args.state.now) in
     let s = (scanner_of c.args.text.now c.steps.state) in
     let v = c.steps.invariant.0 in
-    let l : s.taken < length (before s.limit (history s)) = ltb-true _ _ (sym c.is_settled.ensures ∙ c.steps-test.false) in
+    let l : s.taken < length (before s.limit (history s)) = ltb-true _ _ (sym (c.is_settled.ensures c.args.text.now c.steps.invariant.0.runs) ∙ c.steps-test.false) in
     (record { runs = v.runs; settled = l; made = made_is a s v.runs v.same v.least v.most l; same = v.same }, c.steps.invariant.1)
 
 pub returns-in_err-step_to-clause-sends : goal.returns-in_err-step_to-clause-sends
@@ -70,7 +70,7 @@ returns-in_err-step_to-clause-sends g c =
     let t = (scanner_of c.args.text.now c.step_to.new.state) in
     let i = c.steps.invariant in
     let p = err_from_is_err_and c.from_residual.result c.from_residual.ensures.1 in
-    let q = halts a s i.0 c.requires.still_open (ltb-false _ _ (sym c.is_settled.ensures ∙ c.steps-test.true)) t (λ ts. g.S.yaml_token_sink_t.took c.steps.sink ts c.step_to.new.sink) g.S.yaml_token_sink_t.may_refuse c.in_err-step_to.field-0.0 c.in_err-step_to.ensures.steps in
+    let q = halts a s i.0 c.requires.still_open (ltb-false _ _ (sym (c.is_settled.ensures c.args.text.now c.steps.invariant.0.runs) ∙ c.steps-test.true)) t (λ ts. g.S.yaml_token_sink_t.took c.steps.sink ts c.step_to.new.sink) g.S.yaml_token_sink_t.may_refuse c.in_err-step_to.field-0.0 c.in_err-step_to.ensures.steps in
     rw (p.1, p.2) (elim q [
       | inl w ↦ inl (w.0, w.1, g.met.S.yaml_token_sink_t.took_more c.args.sink.now c.steps.sink c.step_to.new.sink [] [] i.1 w.2)
       | inr w ↦ inr w

@@ -1,9 +1,12 @@
 use Rattle.std.proofs.Common.{List, refl, sym, ◌∙◌, subst, inl, inr}
 use Rattle.yaml_text.specs.Fault.{fault_of}
+use Rattle.yaml_scan.specs.KeptCalls.{GivesMore, GivesToFault}
+use Rattle.yaml_scan.specs.Parser.{Parser}
+use Rattle.yaml_scan.specs.Session.Call.{SCAN}
 use Rattle.yaml_scan.specs.Token.{yaml_token_t}
-use Rattle.yaml_scan.specs.declared.kept.yaml_kept_parser_t.{yaml_kept_parser_t}
-use Rattle.yaml_scan.specs.inside.Kept.{IsKept}
-use Rattle.yaml_scan.proofs.RunningCalls.KeptCalls.{ended, ended_kept, gives_none, over_is, scan_to_fault}
+use Rattle.yaml_scan.specs.inside.Kept.{IsKept, scan_of}
+use Rattle.yaml_scan.specs.inside.Ready.{parser_of}
+use Rattle.yaml_scan.proofs.RunningCalls.KeptCalls.{fault_is, gives_more, gives_none, gives_to_fault, is_kept, is_left_so, over_is, over_this, stopped_left}
 use Rattle.yaml_scan.proofs.kept.yaml_kept_scan_to.Goals as goal
 use Rattle.yaml_scan.proofs.kept.yaml_kept_scan_to.Goals.{then-kept-via-then-kept, then-kept-via-else-kept+then-not-has_room}
 
@@ -18,17 +21,38 @@ returns-then-kept-clause-more g c = λ result p e k. (
   ],
 )
 
+pub give-requires-clause-is : goal.give-requires-clause-is
+give-requires-clause-is g c = let r = c.requires.at in (over_this r.0 c.args.input.now c.args.kept.now r.1 r.2).0
+
 pub returns-in-Ok-clause-more : goal.returns-in-Ok-clause-more
-returns-in-Ok-clause-more g c = λ result p e k. c.in-Ok.ensures.gives p e (sym (over_is p c.args.kept.now k) ∙ c.if-kept.false) k
+returns-in-Ok-clause-more g c = λ result p e k.
+    let i = scan_of c.args.input.now c.args.kept.now in
+    let l = c.give.new.self in
+    let w = c.in-Ok.ensures.gives in
+    let z = w.0 in
+    let t = w.1 in
+    let took : List yaml_token_t → Type 0 = λ ts. g.S.yaml_token_sink_t.took c.args.sink.now ts c.give.new.sink in (
+      parser_of (scan_of c.args.input.now l),
+      is_kept c.args.input.now l (is_left_so c.args.input.now c.args.kept.now l z t.2.sound),
+      subst (λ (q : Parser). GivesMore q (parser_of (scan_of c.args.input.now l)) took) (over_this p c.args.input.now c.args.kept.now e k).1 (gives_more i (scan_of c.args.input.now l) t.0 took refl c.if-kept.false t.2 t.1),
+      t.3,
+    )
 
 pub returns-in-Err-clause-fault : goal.returns-in-Err-clause-fault
 returns-in-Err-clause-fault g c = λ result p e k.
-    let z = c.in-Err.ensures.gives p e (sym (over_is p c.args.kept.now k) ∙ c.if-kept.false) k in
-    let w = c.end_kept.ensures in
-    let took : List yaml_token_t → Type 0 = λ ts. g.S.yaml_token_sink_t.took c.args.sink.now ts c.scan_kept.new.sink in (
-      ended k.parser p k.seen_as c.scan_kept.new.kept took c.in-Err.stop z w.0 w.1,
-      subst (λ (y : yaml_kept_parser_t). IsKept (ended k.parser p k.seen_as c.scan_kept.new.kept took c.in-Err.stop z w.0 w.1) y) (sym w.2) (ended_kept k.parser p k.seen_as c.scan_kept.new.kept took c.in-Err.stop z w.0 w.1),
-      fault_of w.0,
-      refl,
-      scan_to_fault k.parser p k.seen_as c.scan_kept.new.kept took c.in-Err.stop z w.0 w.1 (sym (over_is p c.args.kept.now k) ∙ c.if-kept.false),
+    let x = c.args.input.now in
+    let a = c.args.kept.now in
+    let l = c.give.new.self in
+    let w = c.in-Err.ensures.gives in
+    let h = w.2 in
+    let s = h.stops in
+    let f = c.end.ensures.fault in
+    let d = c.end.ensures.left in
+    let took : List yaml_token_t → Type 0 = λ ts. g.S.yaml_token_sink_t.took c.args.sink.now ts c.give.new.sink in
+    let j = scan_of x (record { setting = l.setting; text = l.text; session = c.end.new.self }) in (
+      parser_of j,
+      is_kept x _ (stopped_left x a l h.setting s.last c.end.result _ f s.stops c.end.new.self d),
+      fault_of c.end.result,
+      fault_is x a l h.setting s.last c.end.result _ f s.stops c.end.new.self d,
+      subst (λ (q : Parser). GivesToFault SCAN q (parser_of j) took (fault_of c.end.result)) (over_this p x a e k).1 (gives_to_fault x a l h.setting s.last c.end.result _ f s.stops c.end.new.self d w.0 s.on s.first c.if-kept.false took w.1),
     )

@@ -9,7 +9,7 @@ use Rattle.yaml_scan.proofs.parser.yaml_parser_mark.Goals as goal
 
 pub returns-clause-reach : goal.returns-clause-reach
 unfolding course_by
-returns-clause-reach c = c.parser.invariant.reach ∙ ap (λ (p : Parser). session_reach (course_read p) p.session) c.parser.view_is
+returns-clause-reach c = c.parser.invariant.scanner.sound.reach ∙ ap (λ (p : Parser). session_reach (course_read p) p.session) c.parser.view_is
 
 pub returns-clause-marks : goal.returns-clause-marks
 returns-clause-marks c = subst (λ (m : yaml_mark_t). ReachesTo c.args.parser.now m) (sym (returns-clause-reach c)) (reach_reaches c.args.parser.now)

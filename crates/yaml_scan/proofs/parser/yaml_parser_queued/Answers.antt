@@ -9,4 +9,4 @@ left_over a b n e = omega arith
 
 pub returns-clause-steps : goal.returns-clause-steps
 unfolding course_by
-returns-clause-steps c = left_over _ c.parser.inside.state.layout.queue.done c.parser.inside.state.made c.parser.invariant.queued ∙ ap (λ (p : Parser). session_queued (course_read p) p.session) c.parser.view_is
+returns-clause-steps c = left_over _ c.parser.inside.scanner.session.state.layout.queue.done c.parser.inside.scanner.session.state.made c.parser.invariant.scanner.sound.queued ∙ ap (λ (p : Parser). session_queued (course_read p) p.session) c.parser.view_is

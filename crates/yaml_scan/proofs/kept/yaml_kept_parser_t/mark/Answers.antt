@@ -1,10 +1,9 @@
 use Rattle.std.proofs.Common.{ap, ◌∙◌}
 use Rattle.yaml_scan.specs.ParserCalls.{course_read}
-use Rattle.yaml_scan.specs.declared.kept.yaml_kept_parser_t.{yaml_kept_parser_t}
 use Rattle.yaml_scan.specs.Sessions.{session_reach}
 use Rattle.yaml_scan.specs.Parser.{Parser, course_by}
 use Rattle.yaml_scan.proofs.kept.yaml_kept_parser_t.mark.Goals as goal
 
 pub returns : goal.returns
 unfolding course_by
-returns c = λ p k. ap (λ (z : yaml_kept_parser_t). z.state.reach) k.kept ∙ k.sound.reach ∙ ap (λ (z : Parser). session_reach (course_read z) z.session) k.seen_as
+returns c = λ p k. k.is.sound.reach ∙ ap (λ (z : Parser). session_reach (course_read z) z.session) k.seen_as
