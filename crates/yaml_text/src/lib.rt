@@ -22,7 +22,7 @@ pub use classes::{
     IS_CRLF, IS_DIGIT, IS_HEX, IS_PRINTABLE, IS_SPACE, IS_TAB, IS_Z, WIDTH,
 };
 pub use decode::{yaml_decode, yaml_decode_front, yaml_encoding_of};
-pub use fault::yaml_fault_t;
+pub use fault::{make_memory_fault, make_scanner_fault, yaml_fault_t};
 pub use kept::yaml_kept_text_t;
 pub use mark::{yaml_index_from_end, yaml_is_place, yaml_mark_at};
 pub use text::yaml_text_t;
