@@ -56,8 +56,10 @@ fn stray_at(bytes: &[u8]) -> Option<usize>
     if continues(bytes[3]) { None } else { Some(3) }
 }
 
+/// The code point that a lead octet and those after it spell, whether it is a character's or not.
+#[inline(always)]
 #[tactic(auto, unfolding(crate::specs::Utf8::value_of))]
-fn value_of(bytes: &[u8], width: usize) -> u32
+pub fn code_of(bytes: &[u8], width: usize) -> u32
     requires some { 0 < width }
     requires whole { width ≤ length bytes.now }
     requires four { width ≤ 4 }
@@ -116,7 +118,7 @@ pub(crate) fn first_char(bytes: &[u8]) -> Result<usize, offence_t>
     if let Some(stray) = stray_at(bytes) {
         return refused(problem_t::TRAIL, stray as u64, bytes[stray] as i32);
     }
-    let value = value_of(bytes, width);
+    let value = code_of(bytes, width);
     if len_of(value) < width {
         return refused(problem_t::LENGTH, 0, -1);
     }
