@@ -32,4 +32,4 @@ pub use types::{
     yaml_scalar_style_t, yaml_sequence_style_t, yaml_simple_key_t, yaml_tag_directive_t,
     yaml_token_type_t, yaml_version_directive_t,
 };
-pub use utf8::code_of;
+pub use utf8::{code_of, push_code};

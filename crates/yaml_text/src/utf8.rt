@@ -131,9 +131,9 @@ pub(crate) fn first_char(bytes: &[u8]) -> Result<usize, offence_t>
     Ok(width)
 }
 
-/// Appends a character to bytes, in UTF-8.
+/// Appends the octets that spell a code point.
 #[inline(always)]
-pub(crate) fn push_char(out: &mut Vec<u8>, c: u32) -> Result<(), AllocError>
+pub fn push_code(out: &mut Vec<u8>, c: u32) -> Result<(), AllocError>
     requires { IsScalar c }
     ensures ok { OnOk result (out.new.items ≡ out.old.items ++ encode_utf8 c) }
     ensures err { OnErr result (out.new.items ≡ out.old.items) }
