@@ -3,9 +3,10 @@ use std::alloc::Global;
 use std::process::Abort;
 use std::test::Fail;
 use yaml_text::{
-    unnamed_yaml_token_t_data, yaml_decode, yaml_decode_front, yaml_encoding_of, yaml_encoding_t,
-    yaml_error_type_t, yaml_fault_t, yaml_index_from_end, yaml_is_place, yaml_mark_at, yaml_mark_t,
-    yaml_scalar_style_t, yaml_tag_directive_t, yaml_text_t, yaml_token_t, yaml_token_type_t,
+    code_of, make_memory_fault, make_scanner_fault, unnamed_yaml_token_t_data, yaml_decode,
+    yaml_decode_front, yaml_encoding_of, yaml_encoding_t, yaml_error_type_t, yaml_fault_t,
+    yaml_index_from_end, yaml_is_place, yaml_mark_at, yaml_mark_t, yaml_scalar_style_t,
+    yaml_tag_directive_t, yaml_text_t, yaml_token_t, yaml_token_type_t,
 };
 
 const ANY: yaml_encoding_t = yaml_encoding_t::YAML_ANY_ENCODING;
@@ -308,6 +309,32 @@ fn unequal_parts(rt: HostRuntime) -> Result<(), Fail> {
     assert!(rt; ends_differ());
     assert!(rt; contexts_differ());
     assert!(rt; prefixes_differ(rt.alloc())?);
+    Ok(())
+}
+
+/// The faults that the crates above make.
+#[test]
+fn faults_are_made(rt: HostRuntime) -> Result<(), Fail> {
+    assert!(rt; make_memory_fault() == MEMORY_FAULT);
+    let fault = yaml_fault_t {
+        error: yaml_error_type_t::YAML_SCANNER_ERROR,
+        problem: Some("found a tab"),
+        problem_mark: NEXT,
+        context: Some("while scanning a tag"),
+        ..MEMORY_FAULT
+    };
+    let made = make_scanner_fault("found a tab", NEXT, Some("while scanning a tag"), FRONT);
+    assert!(rt; made == fault);
+    Ok(())
+}
+
+/// The code points of one to four octets.
+#[test]
+fn codes_spelled(rt: HostRuntime) -> Result<(), Fail> {
+    assert_eq!(rt; code_of(b"a", 1), 0x61);
+    assert_eq!(rt; code_of(b"\xC3\xA9", 2), 0xE9);
+    assert_eq!(rt; code_of(b"\xE2\x82\xAC", 3), 0x20AC);
+    assert_eq!(rt; code_of(b"\xF0\x9F\x98\x80", 4), 0x1F600);
     Ok(())
 }
 

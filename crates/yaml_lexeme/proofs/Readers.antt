@@ -12,8 +12,6 @@ pub mod QuotedRuns
 pub mod QuotedLines
 -- An escape and the short piece after it are parts of a quoted body.
 pub mod ShortTurns
--- A character that is not ASCII is set byte by byte.
-pub mod WideBytes
 -- The bytes of a run, and those of its trimmed piece, are the first of what is left.
 pub mod LineFronts
 -- The hexadecimal digits of an escape are read one by one.

@@ -12,6 +12,7 @@ use crate::problem::yaml_refusal_t;
 use crate::runs::class_t;
 use crate::short::STAGE;
 use std::alloc::AllocError;
+use yaml_text::push_code;
 
 /// Appends the first `n` bytes to `out`. If they are few, a stage of bytes is copied as one, and what is too much of it
 /// is cut off.
@@ -86,45 +87,13 @@ pub(crate) fn copied_front(room: Vec<u8>, bytes: &[u8], n: usize) -> Result<Vec<
     Ok(out)
 }
 
-/// Writes a character that is not ASCII at the front of four bytes, and returns how many of them it takes.
-fn set_wide(place: &mut [u8], c: char) -> usize
-    requires wide { 0x80 ≤ c }
-    requires four { length place.old ≡ 4 }
-    ensures bytes { take result place.new ≡ encode_utf8 c }
-    ensures most { result ≤ 4 }
-    ensures four { length place.new ≡ 4 }
-{
-    let code = c as u32;
-    if code < 0x800 {
-        place[0] = (0xC0 + code / 64) as u8;
-        place[1] = (0x80 + code % 64) as u8;
-        return 2;
-    }
-    if code < 0x1_0000 {
-        place[0] = (0xE0 + code / 4096) as u8;
-        place[1] = (0x80 + code / 64 % 64) as u8;
-        place[2] = (0x80 + code % 64) as u8;
-        return 3;
-    }
-    place[0] = (0xF0 + code / 262144) as u8;
-    place[1] = (0x80 + code / 4096 % 64) as u8;
-    place[2] = (0x80 + code / 64 % 64) as u8;
-    place[3] = (0x80 + code % 64) as u8;
-    4
-}
-
-/// Appends a character that is not ASCII to `out`: four bytes are copied as one, and what is too much is cut off.
+/// Appends a character that is not ASCII to `out`.
 #[inline(never)]
 fn push_wide(out: &mut Vec<u8>, c: char) -> Result<(), AllocError>
     requires { 0x80 ≤ c }
     ensures { OnOk result (out.new.items ≡ out.old.items ++ encode_utf8 c) }
 {
-    let mut bytes = [0; 4];
-    let n = set_wide(&mut bytes, c);
-    let start = out.len();
-    out.extend_from_slice(&bytes)?;
-    out.truncate(start + n);
-    Ok(())
+    push_code(out, c as u32)
 }
 
 /// Appends a character to `out`.

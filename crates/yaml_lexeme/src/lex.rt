@@ -26,7 +26,6 @@ ghost use Rattle.yaml_text.specs.Token.{data_of};
 
 use crate::block::{above, take_block};
 use crate::directive::take_directive;
-use crate::fault::{make_memory_fault, make_scanner_fault};
 use crate::fault_texts::{context_text, problem_text};
 use crate::kind::yaml_lexeme_kind_t;
 use crate::lexeme::{directive_to, scalar_to, whole_of, yaml_lexeme_t};
@@ -39,7 +38,8 @@ use crate::stream_end::{stream_end_at, take_stream_end};
 use crate::tag::take_tag;
 use std::alloc::Global;
 use yaml_text::{
-    unnamed_yaml_token_t_data, yaml_fault_t, yaml_mark_t, yaml_scalar_style_t, yaml_text_t,
+    make_memory_fault, make_scanner_fault, unnamed_yaml_token_t_data, yaml_fault_t, yaml_mark_t,
+    yaml_scalar_style_t, yaml_text_t,
 };
 
 /// The flow depth and the greatest open level at a lexeme.

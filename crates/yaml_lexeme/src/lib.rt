@@ -5,7 +5,6 @@ mod block;
 mod classes;
 mod directive;
 mod escape;
-mod fault;
 mod fault_texts;
 mod fold;
 mod gap;

@@ -6,7 +6,7 @@ ghost use Rattle.std.specs.Str.{chars};
 ghost use Rattle.yaml_text.specs.Chars.{utf8};
 ghost use Rattle.yaml_text.specs.TextBytes.{IsText};
 ghost use Rattle.yaml_text.specs.Classes.{is_break};
-ghost use Rattle.yaml_text.specs.Utf8.{value_of, width_of};
+ghost use Rattle.yaml_text.specs.Utf8.{width_of};
 ghost use Rattle.yaml_lexeme.specs.Place.{peek, first, place_at, skip, after_run, run};
 ghost use Rattle.yaml_lexeme.specs.inside.Moves.{mark_after, is_feed, feed_width, past_break, FedLine};
 ghost use Rattle.yaml_lexeme.specs.Counted.{IsMarkOf};
@@ -18,7 +18,7 @@ ghost use Rattle.yaml_lexeme.specs.inside.ShortRuns.{Short, ShortRun};
 use crate::classes::is_break;
 use crate::runs::{class_t, is_in, line_len, quiet_len, spaces_len, trimmed};
 use std::marker::Model;
-use yaml_text::{WIDTH, yaml_mark_t, yaml_text_t};
+use yaml_text::{WIDTH, code_of, yaml_mark_t, yaml_text_t};
 
 /// Whether the character `$k` places on is `$c`. Past the end a text reads as 0.
 macro_rules! check_at {
@@ -87,28 +87,6 @@ fn feed_width(bytes: &[u8]) -> usize
         b'\n' => 1,
         b'\r' if bytes.len() > 1 && bytes[1] == b'\n' => 2,
         _ => 0,
-    }
-}
-
-/// The code point that a lead byte and those after it spell.
-#[tactic(auto, unfolding(yaml_text::specs::Utf8::value_of))]
-fn code_of(bytes: &[u8], width: usize) -> u32
-    requires some { 0 < width }
-    requires whole { width ≤ length bytes.now }
-    requires four { width ≤ 4 }
-    ensures { result ≡ value_of width bytes.now }
-{
-    let b = bytes[0] as u32;
-    match width {
-        1 => b,
-        2 => b % 32 * 64 + bytes[1] as u32 % 64,
-        3 => b % 16 * 4096 + bytes[1] as u32 % 64 * 64 + bytes[2] as u32 % 64,
-        _ => {
-            b % 8 * 262144
-                + bytes[1] as u32 % 64 * 4096
-                + bytes[2] as u32 % 64 * 64
-                + bytes[3] as u32 % 64
-        }
     }
 }
 

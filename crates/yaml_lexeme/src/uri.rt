@@ -1,6 +1,6 @@
 //! Uris of tags, and their escapes.
 ghost use Rattle.std.specs.Prelude.{◌≡◌, ◌++◌, ◌∷◌, [], not, OnOk};
-ghost use Rattle.yaml_text.specs.Utf8.{continues, width_of};
+ghost use Rattle.yaml_text.specs.Utf8.{continues};
 ghost use Rattle.yaml_lexeme.specs.Place.{first, after_run, run};
 ghost use Rattle.yaml_lexeme.specs.Reading.{with_front};
 ghost use Rattle.yaml_lexeme.specs.Uri as spec;
@@ -10,6 +10,7 @@ use crate::place::{check_at, cursor_t};
 use crate::problem::{offence, refused, yaml_problem_t, yaml_refusal_t};
 use crate::runs::class_t;
 use std::alloc::{AllocError, Global};
+use yaml_text::WIDTH;
 
 /// How many bytes a list of bytes first gets room for.
 const FIRST_ROOM: usize = 8;
@@ -36,19 +37,6 @@ fn octet_at(cursor: &cursor_t) -> Result<u8, yaml_refusal_t>
         return Err(offence(yaml_problem_t::NO_OCTET));
     };
     Ok((high * 16 + low) as u8)
-}
-
-/// How many octets a lead octet begins, or 0.
-fn octet_width(c: u8) -> usize
-    ensures { result ≡ width_of c }
-{
-    match c {
-        0..=0x7F => 1,
-        0xC0..=0xDF => 2,
-        0xE0..=0xEF => 3,
-        0xF0..=0xF7 => 4,
-        _ => 0,
-    }
 }
 
 fn is_bad_next(c: u8) -> bool
@@ -81,7 +69,7 @@ fn take_uri_escape(cursor: &mut cursor_t, out: &mut Vec<u8>) -> Result<(), yaml_
     ensures { Appends (λ cs. cs) result out.old.items out.new.items cursor.new (spec.uri_escape cursor.old) }
 {
     let lead = octet_at(cursor)?;
-    let width = octet_width(lead);
+    let width = WIDTH(&[lead], 0);
     if width == 0 {
         return Err(offence(yaml_problem_t::BAD_LEAD_OCTET));
     }

@@ -1,13 +1,13 @@
 //! Why a step stops: memory was refused, there is a fault, or the sink refused a token. The functions that make a step
 //! stop are cold, and find again what it has tested.
 ghost use Rattle.std.specs.Prelude.{◌≡◌, Bool, List, not, true, Some, None, Err};
-ghost use Rattle.std.specs.Option.{option_copied, is_some};
-ghost use Rattle.yaml_text.specs.Fault.{fault_of, memory_fault, scanner_fault, Fault};
+ghost use Rattle.std.specs.Option.{is_some};
+ghost use Rattle.yaml_text.specs.Fault.{fault_of, scanner_fault, Fault};
 ghost use Rattle.yaml_text.specs.Decoding.{refusal_seen};
 ghost use Rattle.yaml_lexeme.specs.Lexeme.{Lexeme as yaml_lexeme_t};
 ghost use Rattle.yaml_lexeme.specs.Counted.{IsMarkOf};
 ghost use Rattle.yaml_scan.specs.declared.stop.stop_t.TheVariants.{MEMORY, SINK};
-ghost use Rattle.yaml_scan.specs.inside.Stop.{fault_at};
+ghost use Rattle.yaml_scan.specs.inside.Stop.{fault_at, no_fault};
 ghost use Rattle.yaml_scan.specs.declared.kind.step_t.{step_t};
 ghost use Rattle.yaml_scan.specs.Laid.{Laid};
 ghost use Rattle.yaml_scan.specs.SourceOf.{source_of};
@@ -24,53 +24,18 @@ use crate::kind::start_after;
 use crate::scanner::state_t;
 use std::alloc::AllocError;
 use yaml_lexeme::{yaml_lexeme_fault, yaml_lexeme_kind_t, yaml_refusal_t};
-use yaml_text::{yaml_error_type_t, yaml_fault_t, yaml_mark_t, yaml_text_t};
-
-const ZERO: yaml_mark_t = yaml_mark_t {
-    index: 0,
-    line: 0,
-    column: 0,
+use yaml_text::{
+    make_memory_fault, make_scanner_fault, yaml_error_type_t, yaml_fault_t, yaml_mark_t,
+    yaml_text_t,
 };
 
-/// A fault of which only the kind is set.
-fn make_bare_fault(error: yaml_error_type_t) -> yaml_fault_t
-    ensures { fault_of result ≡ record memory_fault { error = error } }
+/// No fault of a step.
+fn make_no_fault() -> yaml_fault_t
+    ensures { fault_of result ≡ no_fault }
 {
     yaml_fault_t {
-        error,
-        problem: None,
-        problem_offset: 0,
-        problem_value: 0,
-        problem_mark: ZERO,
-        context: None,
-        context_mark: ZERO,
-    }
-}
-
-/// The fault of a refused request for memory.
-pub(crate) fn make_memory_fault() -> yaml_fault_t
-    ensures { fault_of result ≡ memory_fault }
-{
-    make_bare_fault(yaml_error_type_t::YAML_MEMORY_ERROR)
-}
-
-/// A problem at a mark, with a context at another.
-pub(crate) fn make_scanner_fault(
-    problem: &'static str,
-    problem_mark: yaml_mark_t,
-    context: Option<&'static str>,
-    context_mark: yaml_mark_t,
-) -> yaml_fault_t
-    ensures { fault_of result ≡ scanner_fault problem.now problem_mark (option_copied context.entry) context_mark }
-{
-    yaml_fault_t {
-        error: yaml_error_type_t::YAML_SCANNER_ERROR,
-        problem: Some(problem),
-        problem_offset: 0,
-        problem_value: 0,
-        problem_mark,
-        context,
-        context_mark,
+        error: yaml_error_type_t::YAML_NO_ERROR,
+        ..make_memory_fault()
     }
 }
 
@@ -115,9 +80,9 @@ pub(crate) fn fault_at(stop: stop_t, stored: &Option<yaml_fault_t>) -> yaml_faul
         stop_t::MEMORY => make_memory_fault(),
         stop_t::FAULT => match stored {
             Some(fault) => *fault,
-            None => make_bare_fault(yaml_error_type_t::YAML_NO_ERROR),
+            None => make_no_fault(),
         },
-        stop_t::SINK => make_bare_fault(yaml_error_type_t::YAML_NO_ERROR),
+        stop_t::SINK => make_no_fault(),
     }
 }
 

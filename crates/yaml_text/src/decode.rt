@@ -134,6 +134,21 @@ fn front_in_utf16<const BIG: bool>(
     Ok((kept, refusal(before + len, offence)))
 }
 
+/// The same, by a call. A build clears the stack of what a function makes at the function's beginning, also where one
+/// branch alone makes it. So this branch is a function of its own, and UTF-8 does not pay for it.
+#[inline(always)]
+fn copied_front<const BIG: bool>(
+    alloc: Global,
+    input: &[u8],
+    before: usize,
+) -> Result<(yaml_kept_text_t, Option<yaml_fault_t>), yaml_fault_t>
+    requires { before ≤ length input.now }
+    ensures front { IfOk result (λ r. KeepsFront (order BIG) before input.now r.0 (refusal_seen r.1)) }
+    ensures memory { IfErr result (λ fault. fault_of fault ≡ memory_fault) }
+{
+    front_in_utf16::<BIG>(alloc, input, before)
+}
+
 impl yaml_kept_text_t {
     /// The front of an input, in the form that is kept when the input is let go, and the fault of what follows it, if
     /// anything does. They are those of [`yaml_decode_front`](crate::yaml_decode_front). In UTF-8 no memory is taken.
@@ -154,12 +169,8 @@ impl yaml_kept_text_t {
     {
         let (encoding, before) = find_encoding(setting, input);
         match encoding {
-            yaml_encoding_t::YAML_UTF16LE_ENCODING => Ok(front_in_utf16::<false>(
-                alloc, input, before,
-            )?),
-            yaml_encoding_t::YAML_UTF16BE_ENCODING => {
-                Ok(front_in_utf16::<true>(alloc, input, before)?)
-            }
+            yaml_encoding_t::YAML_UTF16LE_ENCODING => copied_front::<false>(alloc, input, before),
+            yaml_encoding_t::YAML_UTF16BE_ENCODING => copied_front::<true>(alloc, input, before),
             _ => Ok(front_in_utf8(input, before)),
         }
     }

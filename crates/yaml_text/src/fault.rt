@@ -1,6 +1,7 @@
 //! Faults: why an input was refused, where, and in what context.
 ghost use Rattle.std.specs.Prelude.{◌≡◌, ◌+◌, ◌^◌, ◌<◌};
-ghost use Rattle.yaml_text.specs.Fault.{fault_of, memory_fault, reader_fault};
+ghost use Rattle.std.specs.Option.{option_copied};
+ghost use Rattle.yaml_text.specs.Fault.{bare_fault, fault_of, memory_fault, reader_fault, scanner_fault};
 
 use crate::offence::{offence_t, problem_text};
 use crate::types::{yaml_error_type_t, yaml_mark_t};
@@ -36,12 +37,12 @@ const ZERO: yaml_mark_t = yaml_mark_t {
     column: 0,
 };
 
-/// The fault of refused memory.
-pub(crate) fn make_memory_fault() -> yaml_fault_t
-    ensures { fault_of result ≡ memory_fault }
+/// A fault of a kind, with nothing else said.
+fn make_bare_fault(error: yaml_error_type_t) -> yaml_fault_t
+    ensures { fault_of result ≡ bare_fault error }
 {
     yaml_fault_t {
-        error: yaml_error_type_t::YAML_MEMORY_ERROR,
+        error,
         problem: None,
         problem_offset: 0,
         problem_value: 0,
@@ -51,18 +52,40 @@ pub(crate) fn make_memory_fault() -> yaml_fault_t
     }
 }
 
+/// The fault of refused memory.
+pub fn make_memory_fault() -> yaml_fault_t
+    ensures { fault_of result ≡ memory_fault }
+{
+    make_bare_fault(yaml_error_type_t::YAML_MEMORY_ERROR)
+}
+
 /// The fault of an offence, `before` bytes into the input.
 pub(crate) fn make_reader_fault(before: u64, offence: offence_t) -> yaml_fault_t
     requires { before + offence.offset < 2 ^ 64 }
     ensures { fault_of result ≡ reader_fault before offence }
 {
     yaml_fault_t {
-        error: yaml_error_type_t::YAML_READER_ERROR,
         problem: Some(problem_text(offence.problem)),
         problem_offset: before + offence.offset,
         problem_value: offence.value,
-        problem_mark: ZERO,
-        context: None,
-        context_mark: ZERO,
+        ..make_bare_fault(yaml_error_type_t::YAML_READER_ERROR)
+    }
+}
+
+/// A problem at a mark, with a context at another.
+pub fn make_scanner_fault(
+    problem: &'static str,
+    problem_mark: yaml_mark_t,
+    context: Option<&'static str>,
+    context_mark: yaml_mark_t,
+) -> yaml_fault_t
+    ensures { fault_of result ≡ scanner_fault problem.now problem_mark (option_copied context.entry) context_mark }
+{
+    yaml_fault_t {
+        problem: Some(problem),
+        problem_mark,
+        context,
+        context_mark,
+        ..make_bare_fault(yaml_error_type_t::YAML_SCANNER_ERROR)
     }
 }

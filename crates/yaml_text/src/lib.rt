@@ -22,7 +22,7 @@ pub use classes::{
     IS_CRLF, IS_DIGIT, IS_HEX, IS_PRINTABLE, IS_SPACE, IS_TAB, IS_Z, WIDTH,
 };
 pub use decode::{yaml_decode, yaml_decode_front, yaml_encoding_of};
-pub use fault::yaml_fault_t;
+pub use fault::{make_memory_fault, make_scanner_fault, yaml_fault_t};
 pub use kept::yaml_kept_text_t;
 pub use mark::{yaml_index_from_end, yaml_is_place, yaml_mark_at};
 pub use text::yaml_text_t;
@@ -32,3 +32,4 @@ pub use types::{
     yaml_scalar_style_t, yaml_sequence_style_t, yaml_simple_key_t, yaml_tag_directive_t,
     yaml_token_type_t, yaml_version_directive_t,
 };
+pub use utf8::{code_of, push_code};

@@ -13,7 +13,7 @@ ghost use Rattle.yaml_text.specs.inside.Units.{Reads16};
 use crate::ascii::{ascii_others, others, rest};
 use crate::chars::is_char;
 use crate::offence::{offence_t, problem_t, refused};
-use crate::utf8::push_char;
+use crate::utf8::push_code;
 use std::alloc::{AllocError, Global};
 use std::simd::prelude::*;
 
@@ -482,7 +482,7 @@ pub(crate) fn front16(
     while at < bytes.len() {
         match first_char16(rest(bytes, at), big) {
             Ok((c, width)) => {
-                push_char(&mut out, c)?;
+                push_code(&mut out, c)?;
                 at = push_quick(&mut out, bytes, big, at + width)?;
             }
             Err(offence) => return Ok((out, at, Some(offence))),

@@ -56,8 +56,10 @@ fn stray_at(bytes: &[u8]) -> Option<usize>
     if continues(bytes[3]) { None } else { Some(3) }
 }
 
+/// The code point that a lead octet and those after it spell, whether it is a character's or not.
+#[inline(always)]
 #[tactic(auto, unfolding(crate::specs::Utf8::value_of))]
-fn value_of(bytes: &[u8], width: usize) -> u32
+pub fn code_of(bytes: &[u8], width: usize) -> u32
     requires some { 0 < width }
     requires whole { width ≤ length bytes.now }
     requires four { width ≤ 4 }
@@ -116,7 +118,7 @@ pub(crate) fn first_char(bytes: &[u8]) -> Result<usize, offence_t>
     if let Some(stray) = stray_at(bytes) {
         return refused(problem_t::TRAIL, stray as u64, bytes[stray] as i32);
     }
-    let value = value_of(bytes, width);
+    let value = code_of(bytes, width);
     if len_of(value) < width {
         return refused(problem_t::LENGTH, 0, -1);
     }
@@ -129,9 +131,9 @@ pub(crate) fn first_char(bytes: &[u8]) -> Result<usize, offence_t>
     Ok(width)
 }
 
-/// Appends a character to bytes, in UTF-8.
+/// Appends the octets that spell a code point.
 #[inline(always)]
-pub(crate) fn push_char(out: &mut Vec<u8>, c: u32) -> Result<(), AllocError>
+pub fn push_code(out: &mut Vec<u8>, c: u32) -> Result<(), AllocError>
     requires { IsScalar c }
     ensures ok { OnOk result (out.new.items ≡ out.old.items ++ encode_utf8 c) }
     ensures err { OnErr result (out.new.items ≡ out.old.items) }

@@ -1,6 +1,6 @@
 -- What the functions of decoding keep is kept of the front.
-use Rattle.std.proofs.Common.{◌≡◌, ℕ, ◌+◌, ◌<◌, ◌≤◌, Bool, List, [], length, take, drop, Option, None, Some, refl, sym, ap, ◌∙◌, subst, arith}
-use Rattle.std.specs.Prelude.{option_map, IsNone, IfSome}
+use Rattle.std.proofs.Common.{◌≡◌, ℕ, ◌+◌, ◌<◌, ◌≤◌, Bool, List, [], length, take, drop, Option, None, Some, Result, Ok, Err, refl, sym, ap, ◌∙◌, subst, arith}
+use Rattle.std.specs.Prelude.{option_map, IfOk, IsNone, IfSome}
 use Rattle.std.specs.Str.{chars}
 use Rattle.std.proofs.lemmas.List.{length-drop}
 use Rattle.yaml_text.specs.declared.types.yaml_encoding_t.{yaml_encoding_t}
@@ -68,6 +68,11 @@ kept_by_encoding setting input e f before kept fault f-is e-is before-is k =
       keeps = subst (λ (t : Text). IsKeptOf t input kept) told.text_is k.keeps;
       refusal_is = told.refusal_is;
     }
+
+-- what holds of each value holds of the value of a result
+pub if_ok : {A E : Type 0} {P Q : A → Type 0} (r : Result A E) → ((x : A) → P x → Q x) → IfOk r P → IfOk r Q
+if_ok (Ok x) f h = f x h
+if_ok (Err e) f h = tt
 
 -- for any input, the text of no characters is a part of none
 pub kept_nothing : (input : List ℕ) (kept : KeptText) → kept ≡ record { encoding = YAML_UTF8_ENCODING; own = None; start = 0; len = 0 }

@@ -25,12 +25,12 @@ code_of-requires-clause-whole c =
 pub unwrap-requires : goal.unwrap-requires
 unwrap-requires c =
     let some = c.requires.some in
-    let e = code_is c.args.bytes.now c.width_from.result c.code_of.result c.requires.text some (c.width_from.ensures.is (some_width c.args.bytes.now c.requires.text some)) c.code_of.ensures in
+    let e = code_is c.args.bytes.now c.width_from.result c.code_of.result c.requires.text some (c.width_from.ensures.is (some_width c.args.bytes.now c.requires.text some)) c.code_of.ensures.value in
     let h = head c.args.bytes.now c.requires.text some in
     c.from_u32.ensures.succeeds (subst InScalarRange (sym e) (scalar_range (get_or (chars c.args.bytes.now) 0 0) h.scalar))
 
 pub returns : goal.returns
 returns c =
     let some = c.requires.some in
-    let e = code_is c.args.bytes.now c.width_from.result c.code_of.result c.requires.text some (c.width_from.ensures.is (some_width c.args.bytes.now c.requires.text some)) c.code_of.ensures in
+    let e = code_is c.args.bytes.now c.width_from.result c.code_of.result c.requires.text some (c.width_from.ensures.is (some_width c.args.bytes.now c.requires.text some)) c.code_of.ensures.value in
     (rw c.unwrap.ensures at c.from_u32.ensures.value).1 ∙ e

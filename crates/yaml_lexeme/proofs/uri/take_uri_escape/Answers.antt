@@ -19,6 +19,6 @@ pub returns : goal.returns
 returns c =
     let p = c.args.cursor.now in
     let some : (width_of c.in_ok-lead.lead == 0) ≡ false = grind (arith, nat_tests) in
-    let width : c.octet_width-width.result ≡ width_of c.in_ok-lead.lead = c.octet_width-width.ensures in
+    let width : c.WIDTH-width.result ≡ width_of c.in_ok-lead.lead = c.WIDTH-width.ensures.bytes in
     escape_done c.take_next_octets.result c.in_ok-lead.lead p c.take_next_octets.new.cursor c.args.out.now.items c.push_byte.new.out.items c.take_next_octets.new.out.items c.in_ok-lead.ensures some c.in_ok-push_byte.ensures
     (rw (c.skip.ensures, width) at c.take_next_octets.ensures)

@@ -1,6 +1,6 @@
 use Rattle.std.proofs.Common.{rules, arith}
 use Rattle.yaml_text.proofs.Characters.Utf8Spelling.{two, three, four}
-use Rattle.yaml_text.proofs.utf8.push_char.Goals as goal
+use Rattle.yaml_text.proofs.utf8.push_code.Goals as goal
 
 pub returns-then-c-lt2048-clause-ok : goal.returns-then-c-lt2048-clause-ok
 returns-then-c-lt2048-clause-ok c = rw (two c.args.c (omega arith) (omega arith)) (search rules)
