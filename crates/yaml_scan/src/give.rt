@@ -238,14 +238,15 @@ pub fn yaml_scan_next_to<S: yaml_token_sink_t>(
             Err(fault) => Err(fault),
         };
     }
-    match parser.scanner.send(parser.input, sink) {
-        Ok(false) => Ok(None),
-        Ok(true) => {
-            let token = parser.scanner.session.take();
-            Ok(put_or_return(sink, token))
-        }
-        Err(stop) => Err(parser.scanner.session.end(stop)),
+    let settled = match parser.scanner.send(parser.input, sink) {
+        Ok(settled) => settled,
+        Err(stop) => return Err(parser.scanner.session.end(stop)),
+    };
+    if !settled {
+        return Ok(None);
     }
+    let token = parser.scanner.session.take();
+    Ok(put_or_return(sink, token))
 }
 
 /// Makes steps until the head of the queue is the next token. The groups of steps that need not wait go to the sink.

@@ -17,7 +17,7 @@ ghost use Rattle.yaml_scan.specs.Scanned.{GoesOnBy};
 ghost use Rattle.yaml_scan.specs.Session.Call.{SCAN, PEEK};
 ghost use Rattle.yaml_scan.specs.Session.Answer.{FAULT, PEEKED};
 ghost use Rattle.yaml_scan.specs.Sessions.{new_session, session_reach};
-ghost use Rattle.yaml_scan.specs.inside.Kept.{IsKept, IsScannerOf, scan_of};
+ghost use Rattle.yaml_scan.specs.inside.Kept.{IsKept, IsPartOf, IsScannerOf, scan_of};
 ghost use Rattle.yaml_scan.specs.inside.KeptEnds.{Gives, Sends, Settles, Starts};
 ghost use Rattle.yaml_scan.specs.inside.KeptParts.{EndsNow, ShowsTo};
 ghost use Rattle.yaml_scan.specs.inside.Ready.{IsNew, Begins, IsEnded, IsShort, IsStopped, parser_of};
@@ -29,11 +29,13 @@ use crate::near::{near_of, near_start};
 use crate::parser::yaml_parser_t;
 use crate::scanner::{new_state, state_t};
 use crate::session::session_t;
-use crate::settled::settle_head;
+use crate::settled::{is_settled, settle_head};
 use crate::sink::yaml_token_sink_t;
 use crate::stop::stop_t;
 use std::alloc::Global;
-use yaml_text::{yaml_encoding_t, yaml_fault_t, yaml_kept_text_t, yaml_mark_t, yaml_token_t};
+use yaml_text::{
+    yaml_encoding_t, yaml_fault_t, yaml_kept_text_t, yaml_mark_t, yaml_text_t, yaml_token_t,
+};
 
 /// A scanner without an input: what is kept of its text, and its session. It holds all that a parser of that input
 /// holds, but the input.
@@ -158,9 +160,9 @@ impl yaml_kept_parser_t {
         Ok(())
     }
 
-    /// Makes the steps that the next token needs: none if it was peeked.
+    /// Makes the steps that the next token needs: none if it was peeked. The text is viewed for it.
     #[inline(always)]
-    fn settle(&mut self, input: &[u8]) -> Result<(), stop_t>
+    fn settle_viewed(&mut self, input: &[u8]) -> Result<(), stop_t>
         requires is { IsScannerOf input.now self.old }
         requires still_open { self.old.session.over ≡ false }
         ensures { Settles input.now self.old self.new result }
@@ -173,18 +175,69 @@ impl yaml_kept_parser_t {
         settle_head(&text, &mut self.session.state)
     }
 
+    /// Makes the steps that the next token needs, and puts the text into `part` if it is a part of the input.
+    #[cold]
+    #[inline(never)]
+    fn settle_apart<'a>(
+        &mut self,
+        input: &'a [u8],
+        part: &mut Option<yaml_text_t<'a>>,
+    ) -> Result<(), stop_t>
+        requires is { IsScannerOf input.now self.old }
+        requires still_open { self.old.session.over ≡ false }
+        requires part { IsPartOf input.now self.old part.old }
+        ensures settles { Settles input.now self.old self.new result }
+        ensures part { IsPartOf input.now self.new part.new }
+    {
+        self.settle_viewed(input)?;
+        *part = self.text.part(input);
+        Ok(())
+    }
+
+    /// Makes the steps that the next token needs: none if it was peeked. `part` has the text, if that is known to be a
+    /// part of the input: a text that is viewed once need not be viewed at each step.
+    #[inline(always)]
+    fn settle<'a>(
+        &mut self,
+        input: &'a [u8],
+        part: &mut Option<yaml_text_t<'a>>,
+    ) -> Result<(), stop_t>
+        requires is { IsScannerOf input.now self.old }
+        requires still_open { self.old.session.over ≡ false }
+        requires part { IsPartOf input.now self.old part.old }
+        ensures settles { Settles input.now self.old self.new result }
+        ensures part { IsPartOf input.now self.new part.new }
+    {
+        if self.session.peeked {
+            return Ok(());
+        }
+        if let Some(text) = part.as_ref() {
+            return settle_head(text, &mut self.session.state);
+        }
+        if self.session.state.made > 0 && is_settled(&self.session.state) {
+            return Ok(());
+        }
+        self.settle_apart(input, part)
+    }
+
     /// Takes the next token; after the end of the session the empty one. Returns the fault that ends the session, once.
     #[inline(always)]
-    pub(crate) fn scan(&mut self, input: &[u8]) -> Result<yaml_token_t, yaml_fault_t>
-        requires { IsScannerOf input.now self.old }
+    pub(crate) fn scan<'a>(
+        &mut self,
+        input: &'a [u8],
+        part: &mut Option<yaml_text_t<'a>>,
+    ) -> Result<yaml_token_t, yaml_fault_t>
+        requires is { IsScannerOf input.now self.old }
+        requires part { IsPartOf input.now self.old part.old }
         ensures is { IsScannerOf input.now self.new }
+        ensures part { IsPartOf input.now self.new part.new }
         ensures answers { Calls decoded_input SCAN (parser_of (scan_of input.now self.old)) (scan_result result)
             (parser_of (scan_of input.now self.new)) }
     {
         if self.session.over {
             return Ok(yaml_token_t::empty());
         }
-        match self.settle(input) {
+        match self.settle(input, part) {
             Ok(_) => Ok(self.session.take()),
             Err(stop) => Err(self.session.end(stop)),
         }
@@ -192,9 +245,11 @@ impl yaml_kept_parser_t {
 
     /// Makes the steps that the next token needs, and shows it, unless the session is over. `false` if the session ended
     /// with a fault instead.
-    pub(crate) fn show(&mut self, input: &[u8]) -> bool
-        requires { IsScannerOf input.now self.old }
+    pub(crate) fn show<'a>(&mut self, input: &'a [u8], part: &mut Option<yaml_text_t<'a>>) -> bool
+        requires is { IsScannerOf input.now self.old }
+        requires part { IsPartOf input.now self.old part.old }
         ensures is { IsScannerOf input.now self.new }
+        ensures part { IsPartOf input.now self.new part.new }
         ensures shows { result ≡ true → self.old.session.over ≡ false
             → ShowsTo (scan_of input.now self.old) (scan_of input.now self.new) }
         ensures over { self.old.session.over ≡ true → (result ≡ true) × (self.new ≡ self.old) }
@@ -203,7 +258,7 @@ impl yaml_kept_parser_t {
         if self.session.over {
             return true;
         }
-        match self.settle(input) {
+        match self.settle(input, part) {
             Ok(_) => {
                 self.session.show();
                 true
@@ -304,5 +359,5 @@ pub fn yaml_kept_peek(kept: &mut yaml_kept_parser_t, input: &[u8]) -> bool
         → (q : Parser) × IsKept q kept.new × (fault : Fault) × (q.session.fault ≡ Some fault)
         × GivesToFault PEEK p q (λ tokens. tokens ≡ []) fault }
 {
-    !kept.show(input)
+    !kept.show(input, &mut None)
 }

@@ -27,13 +27,15 @@ use crate::keys::KEY_LIMIT;
 use crate::session::is_last;
 use std::alloc::Global;
 use std::marker::Model;
-use yaml_text::{yaml_encoding_t, yaml_fault_t, yaml_mark_t, yaml_token_t};
+use yaml_text::{yaml_encoding_t, yaml_fault_t, yaml_mark_t, yaml_text_t, yaml_token_t};
 
 /// A parser of an input. Its tokens are taken one after the other.
 #[derive(Drop)]
 pub struct yaml_parser_t<'a> {
     pub(crate) input: &'a [u8],
     pub(crate) scanner: yaml_kept_parser_t,
+    /// The text, once it is known to be a part of the input.
+    pub(crate) part: Option<yaml_text_t<'a>>,
     pub(crate) empty: yaml_token_t,
 }
 
@@ -70,6 +72,7 @@ impl<'a> yaml_parser_t<'a> {
         yaml_parser_t {
             input,
             scanner: yaml_kept_parser_t::with_key_limit(alloc, setting, limit),
+            part: None,
             empty: yaml_token_t::empty(),
         }
     }
@@ -89,7 +92,7 @@ impl<'a> yaml_parser_t<'a> {
     fn show(&mut self) -> bool
         ensures { Shows self.old result self.new }
     {
-        self.scanner.show(self.input)
+        self.scanner.show(self.input, &mut self.part)
     }
 
     /// The fault that has ended the session.
@@ -121,7 +124,7 @@ pub fn yaml_parser_scan(parser: &mut yaml_parser_t) -> Result<yaml_token_t, yaml
     ensures local { IsAnsweredAlike parser.old SCAN (scan_result result) }
     ensures marks { IsCountedIn parser.old (scan_result result) }
 {
-    parser.scanner.scan(parser.input)
+    parser.scanner.scan(parser.input, &mut parser.part)
 }
 
 /// Takes the token that was peeked, and drops it. It needs no memory.

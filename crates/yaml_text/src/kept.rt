@@ -1,5 +1,5 @@
 //! What is kept of a text when its input is let go.
-ghost use Rattle.std.specs.Prelude.{◌≡◌, ◌≢◌, ℕ, [], List, None, Some};
+ghost use Rattle.std.specs.Prelude.{◌≡◌, ◌≢◌, ℕ, [], List, None, Some, IfSome, IsNone, IsSome};
 ghost use Rattle.yaml_text.specs.Kept.{IsKeptOf};
 ghost use Rattle.yaml_text.specs.Text.{Text};
 ghost use Rattle.yaml_text.specs.declared.types.yaml_encoding_t.TheVariants.{YAML_ANY_ENCODING, YAML_UTF8_ENCODING};
@@ -51,6 +51,19 @@ impl yaml_kept_text_t {
         match &self.own {
             Some(bytes) => borrowed_text(self.encoding, bytes.as_slice()),
             None => borrowed_text(self.encoding, &input[self.start..self.start + self.len]),
+        }
+    }
+
+    /// The text, over the same input, if it is a part of that: `None` if its own bytes are kept.
+    pub fn part<'a>(&self, input: &'a [u8]) -> Option<yaml_text_t<'a>>
+        requires { (t : Text) × IsKeptOf t input.now self.now }
+        ensures again { IfSome result (λ text. (t : Text) → IsKeptOf t input.now self.now → text ≡ t) }
+        ensures own { IsNone result → IsSome self.now.own }
+    {
+        let end = self.start + self.len;
+        match self.own {
+            Some(_) => None,
+            None => Some(borrowed_text(self.encoding, &input[self.start..end])),
         }
     }
 

@@ -1,6 +1,8 @@
 -- The calls of a scanner over an input: how they begin, and what they leave.
 use Rattle.std.proofs.Common.{◌≡◌, ℕ, ◌≤◌, ◌<◌, Bool, true, false, not, List, [], ◌∷◌, ◌++◌, length, drop, get_or, Option, Some, None, Err, refl, ap, sym, ◌∙◌, subst, arith}
 use Rattle.std.specs.Prelude.{◌⊎◌, MatchResult, Result, Ok}
+use Rattle.std.specs.Option.{IfSome}
+use Rattle.yaml_scan.specs.Settled.{before}
 use Rattle.std.proofs.lemmas.Bool.{false≢true}
 use Rattle.yaml_text.specs.Fault.{Fault, fault_of, memory_fault}
 use Rattle.yaml_text.specs.Decode.{front}
@@ -26,9 +28,9 @@ use Rattle.yaml_scan.specs.Session.Answer.{FAULT, PEEKED}
 use Rattle.yaml_scan.specs.Token.{yaml_token_t}
 use Rattle.yaml_scan.specs.Groups.{offline}
 use Rattle.yaml_scan.specs.inside.Queue.{pending}
-use Rattle.yaml_scan.specs.inside.Scanning.{Fails, Stops, history}
+use Rattle.yaml_scan.specs.inside.Scanning.{Fails, IsRunning, Stops, history}
 use Rattle.yaml_scan.specs.inside.Scanning as Scanning
-use Rattle.yaml_scan.specs.inside.Kept.{IsKept, IsScannerOf, scan_of}
+use Rattle.yaml_scan.specs.inside.Kept.{IsKept, IsPartOf, IsScannerOf, scan_of}
 use Rattle.yaml_scan.specs.inside.KeptEnds.{KeepsText}
 use Rattle.yaml_scan.specs.inside.KeptEnds as KeptEnds
 use Rattle.yaml_scan.specs.inside.KeptParts.{EndsNow, GivesAllOn, GoesOnTo, HasBegun, HasSettled, SendsNext, ShowsTo, StopsAfter, StopsNow, on_to}
@@ -286,6 +288,56 @@ settles_over input k l z b n state T e (Ok x) w =
     (record { setting = z.setting; text = z.text }, settles_next (scan_of input k) l.session state b n (Ok x) (subst (λ (y : Text). Scanning.Settles (scanner_of y l.session.state) (scanner_of y state)) e w))
 settles_over input k l z b n state T e (Err stop) w =
     (z.setting, settles_next (scan_of input k) l.session state b n (Err stop) (subst (λ (y : Text). ((fault_at stop state.fault ≡ memory_fault) ⊎ Fails (scanner_of y l.session.state) (scanner_of y state) (fault_at stop state.fault)) × Stops (scanner_of y l.session.state) (scanner_of y state)) e w))
+
+-- it is there already
+pub settled_now : (input : List ℕ) (k : yaml_kept_parser_t) → IsScannerOf input k → k.session.over ≡ false → 0 < k.session.state.made
+    → (let s = scanner_in (scan_of input k) in s.taken < length (before s.limit (history s))) → KeepsText input k k × HasSettled (scan_of input k) (front k.setting input) k.session
+settled_now input k r o m l =
+    let i = scan_of input k in
+    let v = r.sound in
+    let b = (begun_before i v o m).started in (
+      record { setting = refl; text = r.text o m },
+      record { sound = v; still_open = o; settled = shown_settled k.setting input (scanner_in i) (record { stands = b.stands; still_open = b.still_open; settled = l }); rest = refl },
+    )
+
+pub keeps_now : (input : List ℕ) (k : yaml_kept_parser_t) → IsScannerOf input k → k.session.over ≡ false → 0 < k.session.state.made → KeepsText input k k
+keeps_now input k r o m = record { setting = refl; text = r.text o m }
+
+pub begun_runs : (input : List ℕ) (k : yaml_kept_parser_t) → IsScannerOf input k → k.session.over ≡ false → 0 < k.session.state.made → IsRunning (scanner_in (scan_of input k))
+begun_runs input k r o m = let b = (begun_before (scan_of input k) r.sound o m).started in b.stands.runs
+
+-- THE PART OF THE INPUT THAT IS THE TEXT
+pub part_as : (input : List ℕ) (k l : yaml_kept_parser_t) (part : Option Text) → l.setting ≡ k.setting → (0 < k.session.state.made → 0 < l.session.state.made) → IsPartOf input k part → IsPartOf input l part
+part_as input k l None e m p = p
+part_as input k l (Some t) e m p = (p.0 ∙ ap (λ (z : yaml_encoding_t). front z input) (sym e), m p.1)
+
+pub part_stays : (input : List ℕ) (k l : yaml_kept_parser_t) (part : Option Text) → l.setting ≡ k.setting → k.session.state.made ≤ l.session.state.made → IsPartOf input k part → IsPartOf input l part
+part_stays input k l part e m p = part_as input k l part e (λ n. omega arith) p
+
+pub part_stopped : (input : List ℕ) (k l : yaml_kept_parser_t) (part : Option Text) (stop : stop_t) → KeptEnds.StopsAtOnce input k l stop → IsPartOf input k part → IsPartOf input l part
+part_stopped input k l part stop w p = let n = w.1.stopped in part_stays input k l part w.0 n.least p
+
+pub part_settled : (input : List ℕ) (k l : yaml_kept_parser_t) (part : Option Text) → KeepsText input k l → HasSettled (scan_of input k) (front k.setting input) l.session → IsPartOf input k part → IsPartOf input l part
+part_settled input k l part z h p = let n = h.settled in part_as input k l part z.setting (λ m. let b = n.stands.runs.begun in b) p
+
+-- whatever came
+pub part_after : (input : List ℕ) (k l : yaml_kept_parser_t) (part : Option Text) (result : Result (Unit {0}) stop_t) → KeptEnds.Settles input k l result → IsPartOf input k part → IsPartOf input l part
+part_after input k l part (Ok x) w p = part_settled input k l part w.0 w.1 p
+part_after input k l part (Err stop) w p = part_stopped input k l part stop w p
+
+-- it was found
+pub part_found : (input : List ℕ) (k l : yaml_kept_parser_t) (part : Option Text) → KeepsText input k l → HasSettled (scan_of input k) (front k.setting input) l.session
+    → IfSome part (λ text. (t : Text) → IsKeptOf t input l.text → text ≡ t) → IsPartOf input l part
+part_found input k l None z h p = p
+part_found input k l (Some t) z h p = (p (front k.setting input) z.text ∙ ap (λ (e : yaml_encoding_t). front e input) (sym z.setting), let n = h.settled in let b = n.stands.runs.begun in b)
+
+-- the session has gone on
+pub part_goes_on : (input : List ℕ) (l : yaml_kept_parser_t) (s : session_t) (part : Option Text) → (0 < l.session.state.made → 0 < s.state.made) → IsPartOf input l part → IsPartOf input (with_its l s) part
+part_goes_on input l s part m p = part_as input l (with_its l s) part refl m p
+
+-- a fault has ended it
+pub part_ended : (input : List ℕ) (l : yaml_kept_parser_t) (part : Option Text) (w : yaml_fault_t) (s : session_t) → s ≡ ended_by l.session w → IsPartOf input l part → IsPartOf input (with_its l s) part
+part_ended input l part w s e p = let m = ap (λ (z : session_t). z.state.made) e in part_goes_on input l s part (λ n. omega (arith, m)) p
 
 -- WHAT WENT TO A SINK
 module _ (input : List ℕ) (k l : yaml_kept_parser_t) (z : KeepsText input k l) (s : session_t) where

@@ -11,11 +11,14 @@ use Rattle.yaml_scan.proofs.RunningCalls.CallAnswers.{at_start, bare}
 use Rattle.yaml_scan.proofs.Texts.AnswerLocality.{scanned_alike}
 use Rattle.yaml_scan.proofs.parser.yaml_parser_scan.Goals as goal
 
-pub scan-requires : goal.scan-requires
-scan-requires c = c.parser.invariant.scanner
+pub scan-requires-clause-is : goal.scan-requires-clause-is
+scan-requires-clause-is c = c.parser.invariant.scanner
+
+pub scan-requires-clause-part : goal.scan-requires-clause-part
+scan-requires-clause-part c = c.parser.invariant.part
 
 pub invariant_of-parser : goal.invariant_of-parser
-invariant_of-parser c = record { scanner = c.scan.ensures.is; empty = c.parser.invariant.empty }
+invariant_of-parser c = record { scanner = c.scan.ensures.is; part = c.scan.ensures.part; empty = c.parser.invariant.empty }
 
 pub returns : goal.returns
 returns c =

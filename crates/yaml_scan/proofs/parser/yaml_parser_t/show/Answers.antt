@@ -1,11 +1,14 @@
 use Rattle.yaml_scan.proofs.RunningCalls.KeptCalls.{shows_so}
 use Rattle.yaml_scan.proofs.parser.yaml_parser_t.show.Goals as goal
 
-pub show-requires : goal.show-requires
-show-requires c = c.self.invariant.scanner
+pub show-requires-clause-is : goal.show-requires-clause-is
+show-requires-clause-is c = c.self.invariant.scanner
+
+pub show-requires-clause-part : goal.show-requires-clause-part
+show-requires-clause-part c = c.self.invariant.part
 
 pub invariant_of-self : goal.invariant_of-self
-invariant_of-self c = record { scanner = c.show.ensures.is; empty = c.self.invariant.empty }
+invariant_of-self c = record { scanner = c.show.ensures.is; part = c.show.ensures.part; empty = c.self.invariant.empty }
 
 pub returns : goal.returns
 returns c = let P = c.self.inside in
