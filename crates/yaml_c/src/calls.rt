@@ -18,9 +18,7 @@ use crate::numbers::encoding_of;
 use crate::record::{bogzhami_mark, bogzhami_token, mark_of};
 use crate::status::{DONE, NO_MEMORY, NOT_LIVE, WRONG};
 use std::alloc::Global;
-
-/// The greatest key limit, in bytes.
-pub(crate) const MOST_KEY_LIMIT: u32 = 65536;
+use yaml_scan::MOST_KEY_LIMIT;
 
 /// Frees what a handle holds, and closes it. Returns whether it held something.
 fn close(alloc: Global, handle: &mut bogzhami_handle) -> bool

@@ -22,7 +22,6 @@ mod status;
 mod tests;
 
 use crate::answer::{counts, counts_and_fault};
-use crate::calls::MOST_KEY_LIMIT;
 use crate::numbers::encoding_of;
 use crate::sink::token_rooms_t;
 use crate::spelled::{skipped_of, spelled_t};
@@ -35,7 +34,7 @@ pub use handle::bogzhami_handle;
 pub use place::bogzhami_place;
 pub use record::{bogzhami_mark, bogzhami_token};
 use std::alloc::Global;
-use yaml_scan::{yaml_encoding_t, yaml_scan_to};
+use yaml_scan::{MOST_KEY_LIMIT, yaml_encoding_t, yaml_scan_to};
 
 /// Puts all tokens of the input of two rooms into them, where there are none, and the texts of the fault after them.
 /// Returns the answer and the status.

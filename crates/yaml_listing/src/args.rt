@@ -7,10 +7,8 @@ ghost use Rattle.yaml_listing.specs.Args.{setting_word, is_limit, are_letters, i
 ghost use Rattle.yaml_listing.specs.declared.args.yaml_command_t.{yaml_command_t};
 ghost use Rattle.yaml_text.specs.declared.types.yaml_encoding_t.{yaml_encoding_t};
 
+use yaml_scan::MOST_KEY_LIMIT;
 use yaml_text::yaml_encoding_t;
-
-/// The greatest key limit, in bytes.
-const MOST_KEY_LIMIT: u32 = 65536;
 
 /// What the program does with the input, in this encoding or in that of its byte order mark.
 #[derive(Clone, Copy, PartialEq, Eq)]

@@ -16,7 +16,10 @@ use yaml_lexeme::yaml_lexeme_kind_t;
 use yaml_text::yaml_mark_t;
 
 /// The key limit in bytes, if no other is set.
-pub(crate) const KEY_LIMIT: u32 = 1024;
+pub const KEY_LIMIT: u32 = 1024;
+
+/// The greatest key limit, in bytes.
+pub const MOST_KEY_LIMIT: u32 = 65536;
 
 impl candidate_t {
     /// Whether a candidate is live at a mark: on its line, and at most `limit` bytes from its start.
