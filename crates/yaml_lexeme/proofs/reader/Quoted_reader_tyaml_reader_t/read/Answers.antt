@@ -1,4 +1,5 @@
-use Rattle.std.proofs.Common.{◌≡◌, Bool, true, false, refl, subst}
+use Rattle.std.proofs.Common.{◌≡◌, Bool, not, true, false, refl, subst}
+use Rattle.std.specs.Prelude.{nat_eq}
 use Rattle.yaml_lexeme.specs.Answers.{ReadsAs, lexeme_at}
 use Rattle.yaml_lexeme.specs.Lex.{lex}
 use Rattle.yaml_lexeme.specs.KindSets.{quoted_kind, quoted_as, quoted_style}
@@ -7,7 +8,7 @@ use Rattle.yaml_lexeme.specs.LexemeOf.{lexeme_of}
 use Rattle.yaml_lexeme.specs.Place.{Place}
 use Rattle.yaml_lexeme.specs.Quoted.{quoted}
 use Rattle.yaml_lexeme.specs.declared.lex.yaml_context_t.{yaml_context_t}
-use Rattle.yaml_lexeme.proofs.lex.yaml_read_quoted.Goals as goal
+use Rattle.yaml_lexeme.proofs.reader.Quoted_reader_tyaml_reader_t.read.Goals as goal
 
 quoted_is : (single : Bool) (context : yaml_context_t) (p : Place) → lex (quoted_kind single) context p ≡ lexeme (whole (quoted_as (quoted_style single))) p (quoted single p)
 unfolding lex
@@ -15,8 +16,10 @@ quoted_is true context p = refl
 quoted_is false context p = refl
 
 pub returns-clause-value : goal.returns-clause-value
-returns-clause-value c = λ n context i.
-    let k = quoted_kind c.args.single in
+returns-clause-value g c = λ n i.
+    let single = not (nat_eq g.row.SINGLE 0) in
+    let k = quoted_kind single in
+    let context = c.args._context in
     let here = c.at-cursor.result in
-    let read = c.read_to.ensures.value k here (lex k context here) (rw (quoted_is c.args.single context here) c.take_quoted_scalar-taken.ensures) in
+    let read = c.read_to.ensures.value k here (lex k context here) (rw (quoted_is single context here) c.take_quoted_scalar-taken.ensures) in
     rw i.mark_is (subst (λ (q : Place). ReadsAs lexeme_of k q.mark c.read_to.new.there c.read_to.result (lexeme_at k context q)) (c.at-cursor.ensures.place n i) read)

@@ -1,0 +1,404 @@
+//! The readers: one for each kind of lexeme that may be refused.
+ghost use Rattle.std.specs.Prelude.{ℕ, Bool, ◌≡◌, ◌+◌, ◌<◌, ◌≤◌, ◌^◌, IsOk, IfSome, length};
+ghost use Rattle.yaml_text.specs.Chars.{utf8};
+ghost use Rattle.yaml_text.specs.Token.{data_of};
+ghost use Rattle.yaml_text.specs.declared.types.yaml_scalar_style_t.TheVariants.{YAML_PLAIN_SCALAR_STYLE};
+ghost use Rattle.yaml_lexeme.specs.Lex as spec;
+ghost use Rattle.yaml_lexeme.specs.KindSets as sets;
+ghost use Rattle.yaml_lexeme.specs.Block as blocks;
+ghost use Rattle.yaml_lexeme.specs.Directive as directives;
+ghost use Rattle.yaml_lexeme.specs.Name as names;
+ghost use Rattle.yaml_lexeme.specs.Plain as plains;
+ghost use Rattle.yaml_lexeme.specs.Quoted as quotes;
+ghost use Rattle.yaml_lexeme.specs.Tag as tags;
+ghost use Rattle.yaml_lexeme.specs.Place.{Place, place_at};
+ghost use Rattle.yaml_lexeme.specs.Counted.{IsMarkOf};
+ghost use Rattle.yaml_lexeme.specs.Reading.{Read};
+ghost use Rattle.yaml_lexeme.specs.inside.Gives.{Gives};
+ghost use Rattle.yaml_lexeme.specs.Answers.{ReadsAs, answer, lexeme_at};
+ghost use Rattle.yaml_lexeme.specs.Lexeme.{Lexeme, lexeme, whole, scalar_to, directive_to};
+ghost use Rattle.yaml_lexeme.specs.LexemeOf.{lexeme_of};
+ghost use Rattle.yaml_lexeme.specs.declared.kind.yaml_lexeme_kind_t.{yaml_lexeme_kind_t as Kind};
+ghost use Rattle.yaml_lexeme.specs.declared.kind.yaml_lexeme_kind_t.TheVariants.{DIRECTIVE, PLAIN, TAG};
+
+use crate::block::{above, take_block};
+use crate::directive::take_directive;
+use crate::kind::yaml_lexeme_kind_t;
+use crate::lex::{yaml_context_t, yaml_spot_t};
+use crate::lexeme::{directive_to, scalar_to, whole_of, yaml_lexeme_t};
+use crate::name::take_name;
+use crate::place::cursor_t;
+use crate::plain::take_plain;
+use crate::problem::{refused, yaml_refusal_t};
+use crate::quoted::take_quoted;
+use crate::tag::take_tag;
+use std::alloc::Global;
+use yaml_text::{unnamed_yaml_token_t_data, yaml_mark_t, yaml_scalar_style_t};
+
+/// Reads lexemes of one kind.
+pub trait yaml_reader_t {
+    // The kind of the lexemes that it reads.
+    ghost KIND: { Kind };
+
+    /// The kind of the lexemes that it reads.
+    const KIND: yaml_lexeme_kind_t;
+
+    /// The lexeme at a spot, or why there is none; then `spot.at` is set to the mark of the offence. With a lexeme, the
+    /// spot stays as it is.
+    ///
+    /// The place and the context are as for [`yaml_lexeme_at`](crate::yaml_lexeme_at), and so is the lexeme.
+    /// [`yaml_lexeme_fault`](crate::yaml_lexeme_fault) makes the fault of a refusal. Memory may be refused too. The
+    /// value of a scalar is put into `room`, in place of what that holds, if it fits.
+    fn read(
+        alloc: Global,
+        room: Vec<u8>,
+        spot: &mut yaml_spot_t,
+        context: yaml_context_t,
+    ) -> Result<yaml_lexeme_t, yaml_refusal_t>
+        requires place { (n : ℕ) × IsMarkOf spot.old.text.now.chars spot.old.at n }
+        requires level { IfSome context.level (λ l. l ≤ length (utf8 spot.old.text.now.chars)) }
+        ensures value { (n : ℕ) → IsMarkOf spot.old.text.now.chars spot.old.at n
+            → ReadsAs lexeme_of KIND spot.old.at spot.new.at result
+            (lexeme_at KIND context (place_at spot.old.text.now.chars n)) }
+        ensures text { spot.new.text ≡ spot.old.text }
+        ensures stays { IsOk result → spot.new.at ≡ spot.old.at };
+}
+
+/// What was taken, or why nothing was; then `there` is set to the mark of the offence.
+#[inline(always)]
+fn read_to(
+    taken: Result<yaml_lexeme_t, yaml_refusal_t>,
+    cursor: &cursor_t,
+    there: &mut yaml_mark_t,
+) -> Result<yaml_lexeme_t, yaml_refusal_t>
+    ensures value { (k : Kind) (p : Place) (read : Read Lexeme) → Gives lexeme_of taken cursor.now read
+        → ReadsAs lexeme_of k p.mark there.new result (answer k p read) }
+    ensures stays { IsOk result → there.new ≡ there.old }
+{
+    match taken {
+        Ok(lexeme) => Ok(lexeme),
+        Err(refusal) => {
+            *there = cursor.mark();
+            Err(refused(refusal))
+        }
+    }
+}
+
+/// The least column of a line that goes on.
+fn least(context: yaml_context_t) -> u64
+    requires { spec.least context < 2 ^ 64 }
+    ensures { result ≡ spec.least context }
+{
+    above(context.level)
+}
+
+/// Takes a plain scalar.
+#[inline(always)]
+fn take_plain_scalar(
+    room: Vec<u8>,
+    cursor: &mut cursor_t,
+    context: yaml_context_t,
+) -> Result<yaml_lexeme_t, yaml_refusal_t>
+    requires { spec.least context + 10 < 2 ^ 64 }
+    ensures { Gives lexeme_of result cursor.new
+        (lexeme (scalar_to YAML_PLAIN_SCALAR_STYLE) cursor.old
+        (plains.plain (spec.in_flow context) (spec.least context) cursor.old)) }
+{
+    let start = cursor.mark();
+    match take_plain(room, cursor, context.depth > 0, least(context)) {
+        Ok(scalar) => Ok(scalar_to(
+            yaml_scalar_style_t::YAML_PLAIN_SCALAR_STYLE,
+            start,
+            scalar,
+            cursor.mark(),
+        )),
+        Err(refusal) => Err(refused(refusal)),
+    }
+}
+
+/// Reads plain scalars.
+pub struct plain_reader_t {}
+
+impl yaml_reader_t for plain_reader_t {
+    ghost KIND = { PLAIN };
+
+    const KIND: yaml_lexeme_kind_t = yaml_lexeme_kind_t::PLAIN;
+
+    #[tactic(auto, unfolding(crate::specs::Lex::lex))]
+    #[inline(always)]
+    fn read(
+        _alloc: Global,
+        room: Vec<u8>,
+        spot: &mut yaml_spot_t,
+        context: yaml_context_t,
+    ) -> Result<yaml_lexeme_t, yaml_refusal_t> {
+        let mut cursor = cursor_t::at(spot.text, spot.at);
+        let taken = take_plain_scalar(room, &mut cursor, context);
+        read_to(taken, &cursor, &mut spot.at)
+    }
+}
+
+/// What a quoted scalar says.
+fn quoted_as(value: Vec<u8>, style: yaml_scalar_style_t) -> unnamed_yaml_token_t_data
+    ensures { data_of result ≡ sets.quoted_as style value.items }
+{
+    unnamed_yaml_token_t_data::SCALAR { value, style }
+}
+
+fn quoted_style(single: bool) -> yaml_scalar_style_t
+    ensures { result ≡ sets.quoted_style single }
+{
+    if single {
+        yaml_scalar_style_t::YAML_SINGLE_QUOTED_SCALAR_STYLE
+    } else {
+        yaml_scalar_style_t::YAML_DOUBLE_QUOTED_SCALAR_STYLE
+    }
+}
+
+/// Takes a quoted scalar.
+#[inline(always)]
+fn take_quoted_scalar(
+    room: Vec<u8>,
+    cursor: &mut cursor_t,
+    single: bool,
+) -> Result<yaml_lexeme_t, yaml_refusal_t>
+    ensures { Gives lexeme_of result cursor.new
+        (lexeme (whole (sets.quoted_as (sets.quoted_style single))) cursor.old (quotes.quoted single cursor.old)) }
+{
+    let start = cursor.mark();
+    match take_quoted(room, cursor, single) {
+        Ok(value) => Ok(whole_of(quoted_as(value, quoted_style(single)), start, cursor.mark())),
+        Err(refusal) => Err(refused(refusal)),
+    }
+}
+
+/// The kind of a quoted scalar.
+#[inline(always)]
+const fn quoted_kind(single: bool) -> yaml_lexeme_kind_t
+    ensures { result ≡ sets.quoted_kind single }
+{
+    if single {
+        yaml_lexeme_kind_t::SINGLE_QUOTED
+    } else {
+        yaml_lexeme_kind_t::DOUBLE_QUOTED
+    }
+}
+
+/// Reads scalars in quotes: single ones if `SINGLE`, and else double ones.
+pub struct quoted_reader_t<const SINGLE: bool> {}
+
+impl<const SINGLE: bool> yaml_reader_t for quoted_reader_t<SINGLE> {
+    ghost KIND = { sets.quoted_kind SINGLE };
+
+    const KIND: yaml_lexeme_kind_t = quoted_kind(SINGLE);
+
+    #[inline(always)]
+    fn read(
+        _alloc: Global,
+        room: Vec<u8>,
+        spot: &mut yaml_spot_t,
+        _context: yaml_context_t,
+    ) -> Result<yaml_lexeme_t, yaml_refusal_t> {
+        let mut cursor = cursor_t::at(spot.text, spot.at);
+        let taken = take_quoted_scalar(room, &mut cursor, SINGLE);
+        read_to(taken, &cursor, &mut spot.at)
+    }
+}
+
+fn block_style(folded: bool) -> yaml_scalar_style_t
+    ensures { result ≡ sets.block_style folded }
+{
+    if folded {
+        yaml_scalar_style_t::YAML_FOLDED_SCALAR_STYLE
+    } else {
+        yaml_scalar_style_t::YAML_LITERAL_SCALAR_STYLE
+    }
+}
+
+/// Takes a literal or folded scalar.
+#[inline(always)]
+fn take_block_scalar(
+    room: Vec<u8>,
+    cursor: &mut cursor_t,
+    folded: bool,
+    context: yaml_context_t,
+) -> Result<yaml_lexeme_t, yaml_refusal_t>
+    requires { spec.least context + 10 < 2 ^ 64 }
+    ensures { Gives lexeme_of result cursor.new
+        (lexeme (scalar_to (sets.block_style folded)) cursor.old (blocks.block folded context.level cursor.old)) }
+{
+    let start = cursor.mark();
+    match take_block(room, cursor, folded, context.level) {
+        Ok(scalar) => Ok(scalar_to(block_style(folded), start, scalar, cursor.mark())),
+        Err(refusal) => Err(refused(refusal)),
+    }
+}
+
+/// The kind of a literal or folded scalar.
+#[inline(always)]
+const fn block_kind(folded: bool) -> yaml_lexeme_kind_t
+    ensures { result ≡ sets.block_kind folded }
+{
+    if folded {
+        yaml_lexeme_kind_t::FOLDED
+    } else {
+        yaml_lexeme_kind_t::LITERAL
+    }
+}
+
+/// Reads block scalars: folded ones if `FOLDED`, and else literal ones.
+pub struct block_reader_t<const FOLDED: bool> {}
+
+impl<const FOLDED: bool> yaml_reader_t for block_reader_t<FOLDED> {
+    ghost KIND = { sets.block_kind FOLDED };
+
+    const KIND: yaml_lexeme_kind_t = block_kind(FOLDED);
+
+    #[tactic(auto, unfolding(crate::specs::Lex::lex))]
+    #[inline(always)]
+    fn read(
+        _alloc: Global,
+        room: Vec<u8>,
+        spot: &mut yaml_spot_t,
+        context: yaml_context_t,
+    ) -> Result<yaml_lexeme_t, yaml_refusal_t> {
+        let mut cursor = cursor_t::at(spot.text, spot.at);
+        let taken = take_block_scalar(room, &mut cursor, FOLDED, context);
+        read_to(taken, &cursor, &mut spot.at)
+    }
+}
+
+/// What an anchor or an alias says.
+fn anchor_or_alias(anchor: bool, value: Vec<u8>) -> unnamed_yaml_token_t_data
+    ensures { data_of result ≡ sets.anchor_or_alias anchor value.items }
+{
+    if anchor {
+        unnamed_yaml_token_t_data::ANCHOR { value }
+    } else {
+        unnamed_yaml_token_t_data::ALIAS { value }
+    }
+}
+
+/// Takes an anchor or an alias.
+#[inline(always)]
+fn take_anchor_or_alias(
+    alloc: Global,
+    cursor: &mut cursor_t,
+    anchor: bool,
+) -> Result<yaml_lexeme_t, yaml_refusal_t>
+    ensures { Gives lexeme_of result cursor.new
+        (lexeme (whole (sets.anchor_or_alias anchor)) cursor.old (names.name cursor.old)) }
+{
+    let start = cursor.mark();
+    match take_name(alloc, cursor) {
+        Ok(value) => Ok(whole_of(anchor_or_alias(anchor, value), start, cursor.mark())),
+        Err(refusal) => Err(refused(refusal)),
+    }
+}
+
+/// The kind of an anchor or an alias.
+#[inline(always)]
+const fn name_kind(anchor: bool) -> yaml_lexeme_kind_t
+    ensures { result ≡ sets.name_kind anchor }
+{
+    if anchor {
+        yaml_lexeme_kind_t::ANCHOR
+    } else {
+        yaml_lexeme_kind_t::ALIAS
+    }
+}
+
+/// Reads anchors if `ANCHOR`, and else aliases.
+pub struct name_reader_t<const ANCHOR: bool> {}
+
+impl<const ANCHOR: bool> yaml_reader_t for name_reader_t<ANCHOR> {
+    ghost KIND = { sets.name_kind ANCHOR };
+
+    const KIND: yaml_lexeme_kind_t = name_kind(ANCHOR);
+
+    #[inline(always)]
+    fn read(
+        alloc: Global,
+        _room: Vec<u8>,
+        spot: &mut yaml_spot_t,
+        _context: yaml_context_t,
+    ) -> Result<yaml_lexeme_t, yaml_refusal_t> {
+        let mut cursor = cursor_t::at(spot.text, spot.at);
+        let taken = take_anchor_or_alias(alloc, &mut cursor, ANCHOR);
+        read_to(taken, &cursor, &mut spot.at)
+    }
+}
+
+/// Takes a tag.
+#[inline(always)]
+fn take_whole_tag(
+    alloc: Global,
+    cursor: &mut cursor_t,
+    context: yaml_context_t,
+) -> Result<yaml_lexeme_t, yaml_refusal_t>
+    ensures { Gives lexeme_of result cursor.new
+        (lexeme (whole (λ t. t)) cursor.old (tags.tag (spec.in_flow context) cursor.old)) }
+{
+    let start = cursor.mark();
+    match take_tag(alloc, cursor, context.depth > 0) {
+        Ok(says) => Ok(whole_of(says, start, cursor.mark())),
+        Err(refusal) => Err(refused(refusal)),
+    }
+}
+
+/// Reads tags.
+pub struct tag_reader_t {}
+
+impl yaml_reader_t for tag_reader_t {
+    ghost KIND = { TAG };
+
+    const KIND: yaml_lexeme_kind_t = yaml_lexeme_kind_t::TAG;
+
+    #[tactic(auto, unfolding(crate::specs::Lex::lex))]
+    #[inline(always)]
+    fn read(
+        alloc: Global,
+        _room: Vec<u8>,
+        spot: &mut yaml_spot_t,
+        context: yaml_context_t,
+    ) -> Result<yaml_lexeme_t, yaml_refusal_t> {
+        let mut cursor = cursor_t::at(spot.text, spot.at);
+        let taken = take_whole_tag(alloc, &mut cursor, context);
+        read_to(taken, &cursor, &mut spot.at)
+    }
+}
+
+/// Takes a directive.
+#[inline(never)]
+fn take_whole_directive(
+    alloc: Global,
+    cursor: &mut cursor_t,
+) -> Result<yaml_lexeme_t, yaml_refusal_t>
+    ensures { Gives lexeme_of result cursor.new (lexeme directive_to cursor.old (directives.directive cursor.old)) }
+{
+    let start = cursor.mark();
+    let directive = take_directive(alloc, cursor)?;
+    Ok(directive_to(start, directive, cursor.mark()))
+}
+
+/// Reads directives.
+pub struct directive_reader_t {}
+
+impl yaml_reader_t for directive_reader_t {
+    ghost KIND = { DIRECTIVE };
+
+    const KIND: yaml_lexeme_kind_t = yaml_lexeme_kind_t::DIRECTIVE;
+
+    #[tactic(auto, unfolding(crate::specs::Lex::lex))]
+    #[inline(always)]
+    fn read(
+        alloc: Global,
+        _room: Vec<u8>,
+        spot: &mut yaml_spot_t,
+        _context: yaml_context_t,
+    ) -> Result<yaml_lexeme_t, yaml_refusal_t> {
+        let mut cursor = cursor_t::at(spot.text, spot.at);
+        let taken = take_whole_directive(alloc, &mut cursor);
+        read_to(taken, &cursor, &mut spot.at)
+    }
+}
