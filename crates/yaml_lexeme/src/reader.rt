@@ -1,5 +1,5 @@
 //! The readers: one for each kind of lexeme that may be refused.
-ghost use Rattle.std.specs.Prelude.{ℕ, Bool, ◌≡◌, ◌+◌, ◌<◌, ◌≤◌, ◌^◌, IsOk, IfSome, length};
+ghost use Rattle.std.specs.Prelude.{ℕ, Bool, ◌≡◌, ◌+◌, ◌<◌, ◌≤◌, ◌^◌, IsOk, IfSome, length, true, false};
 ghost use Rattle.yaml_text.specs.Chars.{utf8};
 ghost use Rattle.yaml_text.specs.Token.{data_of};
 ghost use Rattle.yaml_text.specs.declared.types.yaml_scalar_style_t.TheVariants.{YAML_PLAIN_SCALAR_STYLE};
@@ -40,6 +40,9 @@ pub trait yaml_reader_t {
     // The kind of the lexemes that it reads.
     ghost KIND: { Kind };
 
+    // Whether what it reads depends on the greatest open level.
+    ghost by_level: { Bool };
+
     /// The kind of the lexemes that it reads.
     const KIND: yaml_lexeme_kind_t;
 
@@ -56,7 +59,7 @@ pub trait yaml_reader_t {
         context: yaml_context_t,
     ) -> Result<yaml_lexeme_t, yaml_refusal_t>
         requires place { (n : ℕ) × IsMarkOf spot.old.text.now.chars spot.old.at n }
-        requires level { IfSome context.level (λ l. l ≤ length (utf8 spot.old.text.now.chars)) }
+        requires level { by_level ≡ true → IfSome context.level (λ l. l ≤ length (utf8 spot.old.text.now.chars)) }
         ensures value { (n : ℕ) → IsMarkOf spot.old.text.now.chars spot.old.at n
             → ReadsAs lexeme_of KIND spot.old.at spot.new.at result
             (lexeme_at KIND context (place_at spot.old.text.now.chars n)) }
@@ -121,6 +124,8 @@ pub struct plain_reader_t {}
 
 impl yaml_reader_t for plain_reader_t {
     ghost KIND = { PLAIN };
+
+    ghost by_level = { true };
 
     const KIND: yaml_lexeme_kind_t = yaml_lexeme_kind_t::PLAIN;
 
@@ -190,6 +195,8 @@ pub struct quoted_reader_t<const SINGLE: bool> {}
 impl<const SINGLE: bool> yaml_reader_t for quoted_reader_t<SINGLE> {
     ghost KIND = { sets.quoted_kind SINGLE };
 
+    ghost by_level = { false };
+
     const KIND: yaml_lexeme_kind_t = quoted_kind(SINGLE);
 
     #[inline(always)]
@@ -251,6 +258,8 @@ pub struct block_reader_t<const FOLDED: bool> {}
 
 impl<const FOLDED: bool> yaml_reader_t for block_reader_t<FOLDED> {
     ghost KIND = { sets.block_kind FOLDED };
+
+    ghost by_level = { true };
 
     const KIND: yaml_lexeme_kind_t = block_kind(FOLDED);
 
@@ -314,6 +323,8 @@ pub struct name_reader_t<const ANCHOR: bool> {}
 impl<const ANCHOR: bool> yaml_reader_t for name_reader_t<ANCHOR> {
     ghost KIND = { sets.name_kind ANCHOR };
 
+    ghost by_level = { false };
+
     const KIND: yaml_lexeme_kind_t = name_kind(ANCHOR);
 
     #[inline(always)]
@@ -352,6 +363,8 @@ pub struct tag_reader_t {}
 impl yaml_reader_t for tag_reader_t {
     ghost KIND = { TAG };
 
+    ghost by_level = { false };
+
     const KIND: yaml_lexeme_kind_t = yaml_lexeme_kind_t::TAG;
 
     #[tactic(auto, unfolding(crate::specs::Lex::lex))]
@@ -386,6 +399,8 @@ pub struct directive_reader_t {}
 
 impl yaml_reader_t for directive_reader_t {
     ghost KIND = { DIRECTIVE };
+
+    ghost by_level = { false };
 
     const KIND: yaml_lexeme_kind_t = yaml_lexeme_kind_t::DIRECTIVE;
 

@@ -4,7 +4,7 @@ use Rattle.yaml_scan.proofs.Texts.TextPlaces.{level_bytes, reads_in, reads_well}
 use Rattle.yaml_scan.proofs.source.read_lexeme.Goals as goal
 
 pub read-read-requires-clause-level : goal.read-read-requires-clause-level
-read-read-requires-clause-level g c = level_bytes c.args.text.now.chars c.args.context.level c.requires.level
+read-read-requires-clause-level g c = λ _. level_bytes c.args.text.now.chars c.args.context.level c.requires.level
 
 pub returns-then-is_err : goal.returns-then-is_err
 returns-then-is_err g c =
