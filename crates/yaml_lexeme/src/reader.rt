@@ -1,22 +1,12 @@
 //! The readers: one for each kind of lexeme that may be refused.
-ghost use Rattle.std.specs.Prelude.{ℕ, Bool, ◌≡◌, ◌+◌, ◌<◌, ◌≤◌, ◌^◌, IsOk, IfSome, length, true, false};
+ghost use Rattle.std.specs.Prelude.{ℕ, Bool, ◌≡◌, ◌<◌, ◌≤◌, ◌^◌, IsOk, IfSome, length, true, false};
 ghost use Rattle.yaml_text.specs.Chars.{utf8};
 ghost use Rattle.yaml_text.specs.Token.{data_of};
-ghost use Rattle.yaml_text.specs.declared.types.yaml_scalar_style_t.TheVariants.{YAML_PLAIN_SCALAR_STYLE};
 ghost use Rattle.yaml_lexeme.specs.Lex as spec;
 ghost use Rattle.yaml_lexeme.specs.KindSets as sets;
-ghost use Rattle.yaml_lexeme.specs.Block as blocks;
-ghost use Rattle.yaml_lexeme.specs.Directive as directives;
-ghost use Rattle.yaml_lexeme.specs.Name as names;
-ghost use Rattle.yaml_lexeme.specs.Plain as plains;
-ghost use Rattle.yaml_lexeme.specs.Quoted as quotes;
-ghost use Rattle.yaml_lexeme.specs.Tag as tags;
-ghost use Rattle.yaml_lexeme.specs.Place.{Place, place_at};
+ghost use Rattle.yaml_lexeme.specs.Place.{place_at};
 ghost use Rattle.yaml_lexeme.specs.Counted.{IsMarkOf};
-ghost use Rattle.yaml_lexeme.specs.Reading.{Read};
-ghost use Rattle.yaml_lexeme.specs.inside.Gives.{Gives};
-ghost use Rattle.yaml_lexeme.specs.Answers.{ReadsAs, answer, lexeme_at};
-ghost use Rattle.yaml_lexeme.specs.Lexeme.{Lexeme, lexeme, whole, scalar_to, directive_to};
+ghost use Rattle.yaml_lexeme.specs.Answers.{ReadsAs, lexeme_at};
 ghost use Rattle.yaml_lexeme.specs.LexemeOf.{lexeme_of};
 ghost use Rattle.yaml_lexeme.specs.declared.kind.yaml_lexeme_kind_t.{yaml_lexeme_kind_t as Kind};
 ghost use Rattle.yaml_lexeme.specs.declared.kind.yaml_lexeme_kind_t.TheVariants.{DIRECTIVE, PLAIN, TAG};
@@ -33,7 +23,7 @@ use crate::problem::{refused, yaml_refusal_t};
 use crate::quoted::take_quoted;
 use crate::tag::take_tag;
 use std::alloc::Global;
-use yaml_text::{unnamed_yaml_token_t_data, yaml_mark_t, yaml_scalar_style_t};
+use yaml_text::{unnamed_yaml_token_t_data, yaml_scalar_style_t};
 
 /// Reads lexemes of one kind.
 pub trait yaml_reader_t {
@@ -67,24 +57,27 @@ pub trait yaml_reader_t {
         ensures stays { IsOk result → spot.new.at ≡ spot.old.at };
 }
 
-/// What was taken, or why nothing was; then `there` is set to the mark of the offence.
+/// The same refusal. The spot is set to the mark of the offence, which is where the cursor is.
 #[inline(always)]
-fn read_to(
-    taken: Result<yaml_lexeme_t, yaml_refusal_t>,
+fn refused_here(
+    refusal: yaml_refusal_t,
     cursor: &cursor_t,
-    there: &mut yaml_mark_t,
-) -> Result<yaml_lexeme_t, yaml_refusal_t>
-    ensures value { (k : Kind) (p : Place) (read : Read Lexeme) → Gives lexeme_of taken cursor.now read
-        → ReadsAs lexeme_of k p.mark there.new result (answer k p read) }
-    ensures stays { IsOk result → there.new ≡ there.old }
+    spot: &mut yaml_spot_t,
+) -> yaml_refusal_t
+    ensures value { result ≡ refusal }
+    ensures at { spot.new.at ≡ cursor.now.mark }
+    ensures text { spot.new.text ≡ spot.old.text }
 {
-    match taken {
-        Ok(lexeme) => Ok(lexeme),
-        Err(refusal) => {
-            *there = cursor.mark();
-            Err(refused(refusal))
-        }
-    }
+    spot.at = cursor.mark();
+    refused(refusal)
+}
+
+/// Whether a context is in flow.
+#[inline(always)]
+fn in_flow(context: yaml_context_t) -> bool
+    ensures { result ≡ spec.in_flow context }
+{
+    context.depth > 0
 }
 
 /// The least column of a line that goes on.
@@ -93,30 +86,6 @@ fn least(context: yaml_context_t) -> u64
     ensures { result ≡ spec.least context }
 {
     above(context.level)
-}
-
-/// Takes a plain scalar.
-#[inline(always)]
-fn take_plain_scalar(
-    room: Vec<u8>,
-    cursor: &mut cursor_t,
-    context: yaml_context_t,
-) -> Result<yaml_lexeme_t, yaml_refusal_t>
-    requires { spec.least context + 10 < 2 ^ 64 }
-    ensures { Gives lexeme_of result cursor.new
-        (lexeme (scalar_to YAML_PLAIN_SCALAR_STYLE) cursor.old
-        (plains.plain (spec.in_flow context) (spec.least context) cursor.old)) }
-{
-    let start = cursor.mark();
-    match take_plain(room, cursor, context.depth > 0, least(context)) {
-        Ok(scalar) => Ok(scalar_to(
-            yaml_scalar_style_t::YAML_PLAIN_SCALAR_STYLE,
-            start,
-            scalar,
-            cursor.mark(),
-        )),
-        Err(refusal) => Err(refused(refusal)),
-    }
 }
 
 /// Reads plain scalars.
@@ -138,8 +107,15 @@ impl yaml_reader_t for plain_reader_t {
         context: yaml_context_t,
     ) -> Result<yaml_lexeme_t, yaml_refusal_t> {
         let mut cursor = cursor_t::at(spot.text, spot.at);
-        let taken = take_plain_scalar(room, &mut cursor, context);
-        read_to(taken, &cursor, &mut spot.at)
+        match take_plain(room, &mut cursor, in_flow(context), least(context)) {
+            Ok(scalar) => Ok(scalar_to(
+                yaml_scalar_style_t::YAML_PLAIN_SCALAR_STYLE,
+                spot.at,
+                scalar,
+                cursor.mark(),
+            )),
+            Err(refusal) => Err(refused_here(refusal, &cursor, spot)),
+        }
     }
 }
 
@@ -157,23 +133,6 @@ fn quoted_style(single: bool) -> yaml_scalar_style_t
         yaml_scalar_style_t::YAML_SINGLE_QUOTED_SCALAR_STYLE
     } else {
         yaml_scalar_style_t::YAML_DOUBLE_QUOTED_SCALAR_STYLE
-    }
-}
-
-/// Takes a quoted scalar.
-#[inline(always)]
-fn take_quoted_scalar(
-    room: Vec<u8>,
-    cursor: &mut cursor_t,
-    single: bool,
-) -> Result<yaml_lexeme_t, yaml_refusal_t>
-    ensures { Gives lexeme_of result cursor.new
-        (lexeme (whole (sets.quoted_as (sets.quoted_style single))) cursor.old (quotes.quoted single cursor.old)) }
-{
-    let start = cursor.mark();
-    match take_quoted(room, cursor, single) {
-        Ok(value) => Ok(whole_of(quoted_as(value, quoted_style(single)), start, cursor.mark())),
-        Err(refusal) => Err(refused(refusal)),
     }
 }
 
@@ -207,8 +166,14 @@ impl<const SINGLE: bool> yaml_reader_t for quoted_reader_t<SINGLE> {
         _context: yaml_context_t,
     ) -> Result<yaml_lexeme_t, yaml_refusal_t> {
         let mut cursor = cursor_t::at(spot.text, spot.at);
-        let taken = take_quoted_scalar(room, &mut cursor, SINGLE);
-        read_to(taken, &cursor, &mut spot.at)
+        match take_quoted(room, &mut cursor, SINGLE) {
+            Ok(value) => Ok(whole_of(
+                quoted_as(value, quoted_style(SINGLE)),
+                spot.at,
+                cursor.mark(),
+            )),
+            Err(refusal) => Err(refused_here(refusal, &cursor, spot)),
+        }
     }
 }
 
@@ -219,25 +184,6 @@ fn block_style(folded: bool) -> yaml_scalar_style_t
         yaml_scalar_style_t::YAML_FOLDED_SCALAR_STYLE
     } else {
         yaml_scalar_style_t::YAML_LITERAL_SCALAR_STYLE
-    }
-}
-
-/// Takes a literal or folded scalar.
-#[inline(always)]
-fn take_block_scalar(
-    room: Vec<u8>,
-    cursor: &mut cursor_t,
-    folded: bool,
-    context: yaml_context_t,
-) -> Result<yaml_lexeme_t, yaml_refusal_t>
-    requires { spec.least context + 10 < 2 ^ 64 }
-    ensures { Gives lexeme_of result cursor.new
-        (lexeme (scalar_to (sets.block_style folded)) cursor.old (blocks.block folded context.level cursor.old)) }
-{
-    let start = cursor.mark();
-    match take_block(room, cursor, folded, context.level) {
-        Ok(scalar) => Ok(scalar_to(block_style(folded), start, scalar, cursor.mark())),
-        Err(refusal) => Err(refused(refusal)),
     }
 }
 
@@ -272,8 +218,10 @@ impl<const FOLDED: bool> yaml_reader_t for block_reader_t<FOLDED> {
         context: yaml_context_t,
     ) -> Result<yaml_lexeme_t, yaml_refusal_t> {
         let mut cursor = cursor_t::at(spot.text, spot.at);
-        let taken = take_block_scalar(room, &mut cursor, FOLDED, context);
-        read_to(taken, &cursor, &mut spot.at)
+        match take_block(room, &mut cursor, FOLDED, context.level) {
+            Ok(scalar) => Ok(scalar_to(block_style(FOLDED), spot.at, scalar, cursor.mark())),
+            Err(refusal) => Err(refused_here(refusal, &cursor, spot)),
+        }
     }
 }
 
@@ -285,23 +233,6 @@ fn anchor_or_alias(anchor: bool, value: Vec<u8>) -> unnamed_yaml_token_t_data
         unnamed_yaml_token_t_data::ANCHOR { value }
     } else {
         unnamed_yaml_token_t_data::ALIAS { value }
-    }
-}
-
-/// Takes an anchor or an alias.
-#[inline(always)]
-fn take_anchor_or_alias(
-    alloc: Global,
-    cursor: &mut cursor_t,
-    anchor: bool,
-) -> Result<yaml_lexeme_t, yaml_refusal_t>
-    ensures { Gives lexeme_of result cursor.new
-        (lexeme (whole (sets.anchor_or_alias anchor)) cursor.old (names.name cursor.old)) }
-{
-    let start = cursor.mark();
-    match take_name(alloc, cursor) {
-        Ok(value) => Ok(whole_of(anchor_or_alias(anchor, value), start, cursor.mark())),
-        Err(refusal) => Err(refused(refusal)),
     }
 }
 
@@ -335,25 +266,10 @@ impl<const ANCHOR: bool> yaml_reader_t for name_reader_t<ANCHOR> {
         _context: yaml_context_t,
     ) -> Result<yaml_lexeme_t, yaml_refusal_t> {
         let mut cursor = cursor_t::at(spot.text, spot.at);
-        let taken = take_anchor_or_alias(alloc, &mut cursor, ANCHOR);
-        read_to(taken, &cursor, &mut spot.at)
-    }
-}
-
-/// Takes a tag.
-#[inline(always)]
-fn take_whole_tag(
-    alloc: Global,
-    cursor: &mut cursor_t,
-    context: yaml_context_t,
-) -> Result<yaml_lexeme_t, yaml_refusal_t>
-    ensures { Gives lexeme_of result cursor.new
-        (lexeme (whole (λ t. t)) cursor.old (tags.tag (spec.in_flow context) cursor.old)) }
-{
-    let start = cursor.mark();
-    match take_tag(alloc, cursor, context.depth > 0) {
-        Ok(says) => Ok(whole_of(says, start, cursor.mark())),
-        Err(refusal) => Err(refused(refusal)),
+        match take_name(alloc, &mut cursor) {
+            Ok(value) => Ok(whole_of(anchor_or_alias(ANCHOR, value), spot.at, cursor.mark())),
+            Err(refusal) => Err(refused_here(refusal, &cursor, spot)),
+        }
     }
 }
 
@@ -376,22 +292,11 @@ impl yaml_reader_t for tag_reader_t {
         context: yaml_context_t,
     ) -> Result<yaml_lexeme_t, yaml_refusal_t> {
         let mut cursor = cursor_t::at(spot.text, spot.at);
-        let taken = take_whole_tag(alloc, &mut cursor, context);
-        read_to(taken, &cursor, &mut spot.at)
+        match take_tag(alloc, &mut cursor, in_flow(context)) {
+            Ok(says) => Ok(whole_of(says, spot.at, cursor.mark())),
+            Err(refusal) => Err(refused_here(refusal, &cursor, spot)),
+        }
     }
-}
-
-/// Takes a directive.
-#[inline(never)]
-fn take_whole_directive(
-    alloc: Global,
-    cursor: &mut cursor_t,
-) -> Result<yaml_lexeme_t, yaml_refusal_t>
-    ensures { Gives lexeme_of result cursor.new (lexeme directive_to cursor.old (directives.directive cursor.old)) }
-{
-    let start = cursor.mark();
-    let directive = take_directive(alloc, cursor)?;
-    Ok(directive_to(start, directive, cursor.mark()))
 }
 
 /// Reads directives.
@@ -405,7 +310,7 @@ impl yaml_reader_t for directive_reader_t {
     const KIND: yaml_lexeme_kind_t = yaml_lexeme_kind_t::DIRECTIVE;
 
     #[tactic(auto, unfolding(crate::specs::Lex::lex))]
-    #[inline(always)]
+    #[inline(never)]
     fn read(
         alloc: Global,
         _room: Vec<u8>,
@@ -413,7 +318,9 @@ impl yaml_reader_t for directive_reader_t {
         _context: yaml_context_t,
     ) -> Result<yaml_lexeme_t, yaml_refusal_t> {
         let mut cursor = cursor_t::at(spot.text, spot.at);
-        let taken = take_whole_directive(alloc, &mut cursor);
-        read_to(taken, &cursor, &mut spot.at)
+        match take_directive(alloc, &mut cursor) {
+            Ok(directive) => Ok(directive_to(spot.at, directive, cursor.mark())),
+            Err(refusal) => Err(refused_here(refusal, &cursor, spot)),
+        }
     }
 }
