@@ -5,3 +5,7 @@ use Rattle.yaml_lexeme.proofs.reader.Tag_reader_tyaml_reader_t.read.Goals as goa
 pub returns-in-Ok-clause-value : goal.returns-in-Ok-clause-value
 unfolding lex
 returns-in-Ok-clause-value c = search rules
+
+pub returns-clause-value : goal.returns-clause-value
+unfolding lex
+returns-clause-value c = search rules
