@@ -18,7 +18,7 @@ LEFT_OUT = {("yaml_listing", "answer", "list_decoded"), ("yaml_listing", "answer
 SHOWN = {
     "yaml_listing": "run answer line put",
     "yaml_scan": "give parser step source layout groups sink",
-    "yaml_lexeme": "gap kind lex plain place runs",
+    "yaml_lexeme": "gap kind lex reader plain place runs",
     "yaml_text": "decode ascii blocks",
 }
 MOST_FUNCTIONS = 3
@@ -113,7 +113,7 @@ def called(crate, name, function):
     """The functions that the body of a function calls, in order, each with its crate and module.
 
     A method is that of this module or of one that a type comes from, and of a trait if one of these declares it. A function of a
-    type parameter is that of this module.
+    type parameter is that of this module, or of one that a trait comes from.
     """
     brought, functions = module(crate, name)
     homes = {word: home(crate, path, word) for word, path in brought.items()}
@@ -126,8 +126,8 @@ def called(crate, name, function):
             yield (*owner(*homes[word], word, inner), inner) if inner else (*homes[word], word)
         elif word in functions and not inner:
             yield crate, name, word
-        elif inner in functions and len(word) == 1:
-            yield crate, name, inner
+        elif len(word) == 1:
+            yield from [(*place, inner) for place in places if inner in module(*place)[1]][:1]
 
 
 def made_by(crate, name, function):

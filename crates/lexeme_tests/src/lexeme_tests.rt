@@ -3,10 +3,10 @@ use std::alloc::Global;
 use std::process::Abort;
 use std::test::Fail;
 use yaml_lexeme::{
-    yaml_context_t, yaml_decider_at, yaml_gap, yaml_lexeme_at, yaml_lexeme_fault, yaml_lexeme_kind,
-    yaml_lexeme_kind_t, yaml_lexeme_t, yaml_read_block, yaml_read_character, yaml_read_lexeme,
-    yaml_read_marker, yaml_read_name, yaml_read_plain, yaml_read_quoted, yaml_read_stream_end,
-    yaml_read_tag, yaml_refusal_t, yaml_spot_t,
+    block_reader_t, directive_reader_t, name_reader_t, plain_reader_t, quoted_reader_t,
+    tag_reader_t, yaml_context_t, yaml_decider_at, yaml_gap, yaml_lexeme_at, yaml_lexeme_fault,
+    yaml_lexeme_kind, yaml_lexeme_kind_t, yaml_lexeme_t, yaml_read_character, yaml_read_marker,
+    yaml_read_stream_end, yaml_reader_t, yaml_refusal_t, yaml_spot_t,
 };
 use yaml_text::{
     unnamed_yaml_token_t_data, yaml_decode, yaml_encoding_t, yaml_error_type_t, yaml_fault_t,
@@ -207,11 +207,10 @@ fn show_read(
     }
 }
 
-/// The scalar at the front of a text, by the reader of its kind.
-fn scalar_read(
+/// What a reader returns at the front of a text.
+fn read_by<R: yaml_reader_t>(
     alloc: Global,
     bytes: &[u8],
-    kind: yaml_lexeme_kind_t,
     context: yaml_context_t,
 ) -> Result<String, Fail> {
     let text = decoded(alloc, bytes)?;
@@ -220,55 +219,12 @@ fn scalar_read(
     {
         return Ok(String::from_str(alloc, "no level")?);
     }
-    let room = Vec::new(alloc);
     let mut spot = yaml_spot_t {
         text: &text,
         at: FRONT,
     };
-    let read = match kind {
-        yaml_lexeme_kind_t::PLAIN => yaml_read_plain(room, &mut spot, context),
-        yaml_lexeme_kind_t::SINGLE_QUOTED => yaml_read_quoted(room, &mut spot, true),
-        yaml_lexeme_kind_t::DOUBLE_QUOTED => yaml_read_quoted(room, &mut spot, false),
-        yaml_lexeme_kind_t::LITERAL => yaml_read_block(room, &mut spot, false, context),
-        yaml_lexeme_kind_t::FOLDED => yaml_read_block(room, &mut spot, true, context),
-        _ => return Ok(String::from_str(alloc, "no scalar")?),
-    };
-    show_read(alloc, read, kind, spot.at)
-}
-
-/// The anchor, alias or tag at the front of a text, by the reader of its kind.
-fn named_read(alloc: Global, bytes: &[u8], depth: u64) -> Result<String, Fail> {
-    let text = decoded(alloc, bytes)?;
-    let Some(kind) = yaml_lexeme_kind(&text, FRONT, depth > 0) else {
-        return Ok(String::from_str(alloc, "no kind")?);
-    };
-    let context = yaml_context_t { depth, level: None };
-    let mut spot = yaml_spot_t {
-        text: &text,
-        at: FRONT,
-    };
-    let read = match kind {
-        yaml_lexeme_kind_t::ANCHOR => yaml_read_name(alloc, &mut spot, true),
-        yaml_lexeme_kind_t::ALIAS => yaml_read_name(alloc, &mut spot, false),
-        yaml_lexeme_kind_t::TAG => yaml_read_tag(alloc, &mut spot, context),
-        _ => return Ok(String::from_str(alloc, "no name")?),
-    };
-    show_read(alloc, read, kind, spot.at)
-}
-
-/// The lexeme at the front of a text, by the reader of every kind.
-fn lexeme_read(alloc: Global, bytes: &[u8], depth: u64) -> Result<String, Fail> {
-    let text = decoded(alloc, bytes)?;
-    let Some(kind) = yaml_lexeme_kind(&text, FRONT, depth > 0) else {
-        return Ok(String::from_str(alloc, "no kind")?);
-    };
-    let context = yaml_context_t { depth, level: None };
-    let mut spot = yaml_spot_t {
-        text: &text,
-        at: FRONT,
-    };
-    let read = yaml_read_lexeme(alloc, &mut spot, kind, context);
-    show_read(alloc, read, kind, spot.at)
+    let read = R::read(alloc, Vec::new(alloc), &mut spot, context);
+    show_read(alloc, read, R::KIND, spot.at)
 }
 
 /// The lexeme of one character at the front of a text.
@@ -310,6 +266,40 @@ fn stream_end_read(alloc: Global, bytes: &[u8], index: usize) -> Result<String, 
     )
 }
 
+/// The lexeme at the front of a text, by what reads its kind.
+fn kind_read(
+    alloc: Global,
+    bytes: &[u8],
+    kind: yaml_lexeme_kind_t,
+    context: yaml_context_t,
+) -> Result<String, Fail> {
+    match kind {
+        yaml_lexeme_kind_t::STREAM_END => stream_end_read(alloc, bytes, 0),
+        yaml_lexeme_kind_t::DIRECTIVE => read_by::<directive_reader_t>(alloc, bytes, context),
+        yaml_lexeme_kind_t::ALIAS => read_by::<name_reader_t<false>>(alloc, bytes, context),
+        yaml_lexeme_kind_t::ANCHOR => read_by::<name_reader_t<true>>(alloc, bytes, context),
+        yaml_lexeme_kind_t::TAG => read_by::<tag_reader_t>(alloc, bytes, context),
+        yaml_lexeme_kind_t::LITERAL => read_by::<block_reader_t<false>>(alloc, bytes, context),
+        yaml_lexeme_kind_t::FOLDED => read_by::<block_reader_t<true>>(alloc, bytes, context),
+        yaml_lexeme_kind_t::SINGLE_QUOTED => {
+            read_by::<quoted_reader_t<true>>(alloc, bytes, context)
+        }
+        yaml_lexeme_kind_t::DOUBLE_QUOTED => {
+            read_by::<quoted_reader_t<false>>(alloc, bytes, context)
+        }
+        yaml_lexeme_kind_t::PLAIN => read_by::<plain_reader_t>(alloc, bytes, context),
+        _ => character_read(alloc, bytes, context.depth > 0),
+    }
+}
+
+/// The lexeme at the front of a text, by what reads the kind that is there.
+fn lexeme_read(alloc: Global, bytes: &[u8], depth: u64) -> Result<String, Fail> {
+    match kind_of(alloc, bytes, depth > 0)? {
+        Some(kind) => kind_read(alloc, bytes, kind, yaml_context_t { depth, level: None }),
+        None => Ok(String::from_str(alloc, "no kind")?),
+    }
+}
+
 /// The kind at the front of a text, if it may decide there whether a scalar before it is a key.
 fn decider_at(
     alloc: Global,
@@ -345,9 +335,7 @@ enum way_t {
     GAP(bool, bool),
     /// A scalar by the reader of its kind, at a flow depth and with a greatest open level.
     SCALAR(yaml_lexeme_kind_t, u64, Option<u64>),
-    /// An anchor, an alias or a tag by the reader of its kind, at a flow depth.
-    NAMED(u64),
-    /// A lexeme by the reader of every kind, at a flow depth.
+    /// A lexeme by what reads the kind that is there, at a flow depth.
     LEXEME(u64),
     /// A lexeme of one character or a document marker, in flow or not.
     CHARACTER(bool),
@@ -360,9 +348,8 @@ fn shown_of(alloc: Global, bytes: &[u8], way: way_t) -> Result<String, Fail> {
     match way {
         way_t::GAP(in_flow, allowed) => show_gap(alloc, bytes, in_flow, allowed),
         way_t::SCALAR(kind, depth, level) => {
-            scalar_read(alloc, bytes, kind, yaml_context_t { depth, level })
+            kind_read(alloc, bytes, kind, yaml_context_t { depth, level })
         }
-        way_t::NAMED(depth) => named_read(alloc, bytes, depth),
         way_t::LEXEME(depth) => lexeme_read(alloc, bytes, depth),
         way_t::CHARACTER(in_flow) => character_read(alloc, bytes, in_flow),
         way_t::END(index) => stream_end_read(alloc, bytes, index),
@@ -1454,7 +1441,7 @@ fn refusals_of_scalars(rt: HostRuntime) -> Result<(), Fail> {
     Ok(())
 }
 
-/// Lexemes of every kind, and their offences, by one reader.
+/// Lexemes of many kinds, and their offences, by what reads the kind that is there.
 #[test]
 fn lexemes_read(rt: HostRuntime) -> Result<(), Fail> {
     const ROWS: [(&str, way_t, &str); 12] = [
@@ -1508,58 +1495,58 @@ fn names_and_tags_read(rt: HostRuntime) -> Result<(), Fail> {
     const ROWS: [(&str, way_t, &str); 12] = [
         (
             "&a_-9 x",
-            way_t::NAMED(0),
+            way_t::LEXEME(0),
             "anchor 615f2d39 0:0:0 5:0:5 5:0:5 false",
         ),
-        ("*Z]", way_t::NAMED(1), "alias 5a 0:0:0 2:0:2 2:0:2 false"),
+        ("*Z]", way_t::LEXEME(1), "alias 5a 0:0:0 2:0:2 2:0:2 false"),
         (
             "*abcdefghijklmnopqrst uvwxyz012345678",
-            way_t::NAMED(0),
+            way_t::LEXEME(0),
             "alias 6162636465666768696a6b6c6d6e6f7071727374 0:0:0 21:0:21 21:0:21 false",
         ),
         (
             "*a.b xxxxxxxxxxxxxxxxxx",
-            way_t::NAMED(0),
+            way_t::LEXEME(0),
             "while scanning an alias 0:0:0; did not find expected alphabetic or numeric character 2:0:2",
         ),
         (
             "& abcdefghijklmnopqrst",
-            way_t::NAMED(0),
+            way_t::LEXEME(0),
             "while scanning an anchor 0:0:0; did not find expected alphabetic or numeric character 1:0:1",
         ),
         (
             "!abc xxxxxxxxxxxxxxxxxx",
-            way_t::NAMED(0),
+            way_t::LEXEME(0),
             "tag 21 616263 0:0:0 4:0:4 4:0:4 false",
         ),
         (
             "!a,b xxxxxxxxxxxxxxxxxx",
-            way_t::NAMED(1),
+            way_t::LEXEME(1),
             "tag 21 61 0:0:0 2:0:2 2:0:2 false",
         ),
         (
             "!a/b:c?d@e&f=g+h$i.j~l*m'n(o);_-9 x",
-            way_t::NAMED(0),
+            way_t::LEXEME(0),
             "tag 21 612f623a633f64406526663d672b6824692e6a7e6c2a6d276e286f293b5f2d39 0:0:0 33:0:33 33:0:33 false",
         ),
         (
             "!a%20b xxxxxxxxxxxxxxxxxx",
-            way_t::NAMED(0),
+            way_t::LEXEME(0),
             "tag 21 612062 0:0:0 6:0:6 6:0:6 false",
         ),
         (
             "!a!b%41c xxxxxxxxxxxxxxxxxx",
-            way_t::NAMED(0),
+            way_t::LEXEME(0),
             "tag 216121 624163 0:0:0 8:0:8 8:0:8 false",
         ),
         (
             "!!python/object:app.main.name x",
-            way_t::NAMED(0),
+            way_t::LEXEME(0),
             "tag 2121 707974686f6e2f6f626a6563743a6170702e6d61696e2e6e616d65 0:0:0 29:0:29 29:0:29 false",
         ),
         (
             "!a%2 xxxxxxxxxxxxxxxxxx",
-            way_t::NAMED(0),
+            way_t::LEXEME(0),
             "while parsing a tag 0:0:0; did not find URI escaped octet 2:0:2",
         ),
     ];

@@ -1,45 +1,34 @@
 //! Lexemes of every kind.
-ghost use Rattle.std.specs.Prelude.{ℕ, Bool, ◌≡◌, ◌+◌, ◌<◌, ◌≤◌, ◌^◌, true, Some, Ok, IsOk, IfSome, length};
+ghost use Rattle.std.specs.Prelude.{ℕ, Bool, ◌≡◌, ◌≤◌, true, Some, Ok, IsOk, IfSome, length};
 ghost use Rattle.yaml_text.specs.Chars.{utf8};
 ghost use Rattle.yaml_text.specs.Fault.{fault_of};
+ghost use Rattle.yaml_text.specs.Token.{data_of};
 ghost use Rattle.yaml_lexeme.specs.Kind as kinds;
 ghost use Rattle.yaml_lexeme.specs.Lex as spec;
 ghost use Rattle.yaml_lexeme.specs.KindSets as sets;
-ghost use Rattle.yaml_lexeme.specs.Block as blocks;
-ghost use Rattle.yaml_lexeme.specs.Directive as directives;
-ghost use Rattle.yaml_lexeme.specs.Name as names;
-ghost use Rattle.yaml_lexeme.specs.Plain as plains;
-ghost use Rattle.yaml_lexeme.specs.Quoted as quotes;
-ghost use Rattle.yaml_lexeme.specs.Tag as tags;
-ghost use Rattle.yaml_text.specs.declared.types.yaml_scalar_style_t.TheVariants.{YAML_PLAIN_SCALAR_STYLE};
-ghost use Rattle.yaml_lexeme.specs.Place.{Place, place_at, skip};
+ghost use Rattle.yaml_lexeme.specs.Place.{place_at, skip};
 ghost use Rattle.yaml_lexeme.specs.Counted.{IsMarkOf};
-ghost use Rattle.yaml_lexeme.specs.Reading.{Read, found};
-ghost use Rattle.yaml_lexeme.specs.inside.Gives.{Gives};
-ghost use Rattle.yaml_lexeme.specs.Answers.{Answers, ReadsAs, answer, lexeme_at, refused_at};
-ghost use Rattle.yaml_lexeme.specs.Lexeme.{Lexeme, lexeme, whole, scalar_to, directive_to};
+ghost use Rattle.yaml_lexeme.specs.Reading.{found};
+ghost use Rattle.yaml_lexeme.specs.Answers.{Answers, ReadsAs, lexeme_at, refused_at};
+ghost use Rattle.yaml_lexeme.specs.Lexeme.{lexeme, whole};
 ghost use Rattle.yaml_lexeme.specs.LexemeOf.{lexeme_of};
-ghost use Rattle.yaml_lexeme.specs.declared.kind.yaml_lexeme_kind_t.{yaml_lexeme_kind_t as Kind};
-ghost use Rattle.yaml_lexeme.specs.declared.kind.yaml_lexeme_kind_t.TheVariants.{PLAIN, STREAM_END, TAG};
+ghost use Rattle.yaml_lexeme.specs.declared.kind.yaml_lexeme_kind_t.TheVariants.{STREAM_END};
 ghost use Rattle.yaml_lexeme.specs.declared.lex.yaml_context_t.{yaml_context_t};
-ghost use Rattle.yaml_text.specs.Token.{data_of};
 
-use crate::block::{above, take_block};
-use crate::directive::take_directive;
 use crate::fault_texts::{context_text, problem_text};
 use crate::kind::yaml_lexeme_kind_t;
-use crate::lexeme::{directive_to, scalar_to, whole_of, yaml_lexeme_t};
-use crate::name::take_name;
+use crate::lexeme::{whole_of, yaml_lexeme_t};
 use crate::place::cursor_t;
-use crate::plain::take_plain;
-use crate::problem::{refused, yaml_refusal_t};
-use crate::quoted::take_quoted;
-use crate::stream_end::{stream_end_at, take_stream_end};
-use crate::tag::take_tag;
+use crate::problem::yaml_refusal_t;
+use crate::reader::{
+    block_reader_t, directive_reader_t, name_reader_t, plain_reader_t, quoted_reader_t,
+    tag_reader_t, yaml_reader_t,
+};
+use crate::stream_end::stream_end_at;
 use std::alloc::Global;
 use yaml_text::{
     make_memory_fault, make_scanner_fault, unnamed_yaml_token_t_data, yaml_fault_t, yaml_mark_t,
-    yaml_scalar_style_t, yaml_text_t,
+    yaml_text_t,
 };
 
 /// The flow depth and the greatest open level at a lexeme.
@@ -78,14 +67,6 @@ fn says_of(kind: yaml_lexeme_kind_t) -> unnamed_yaml_token_t_data
     }
 }
 
-/// The least column of a line that goes on.
-fn least(context: yaml_context_t) -> u64
-    requires { spec.least context < 2 ^ 64 }
-    ensures { result ≡ spec.least context }
-{
-    above(context.level)
-}
-
 /// Takes a lexeme of one character.
 #[inline(always)]
 fn take_character(cursor: &mut cursor_t, kind: yaml_lexeme_kind_t) -> yaml_lexeme_t
@@ -101,7 +82,7 @@ fn take_character(cursor: &mut cursor_t, kind: yaml_lexeme_kind_t) -> yaml_lexem
 
 /// The kind of a document marker: of `---`, which starts a document, or of `...`, which ends one.
 #[inline(always)]
-fn marker_kind(start: bool) -> yaml_lexeme_kind_t
+pub fn yaml_marker_kind(start: bool) -> yaml_lexeme_kind_t
     ensures { result ≡ sets.marker_kind start }
 {
     if start {
@@ -122,389 +103,7 @@ fn take_marker(cursor: &mut cursor_t, start: bool) -> yaml_lexeme_t
     cursor.pass();
     cursor.pass();
     cursor.pass();
-    whole_of(says_of(marker_kind(start)), at, cursor.mark())
-}
-
-/// What an anchor or an alias says.
-fn anchor_or_alias(anchor: bool, value: Vec<u8>) -> unnamed_yaml_token_t_data
-    ensures { data_of result ≡ sets.anchor_or_alias anchor value.items }
-{
-    if anchor {
-        unnamed_yaml_token_t_data::ANCHOR { value }
-    } else {
-        unnamed_yaml_token_t_data::ALIAS { value }
-    }
-}
-
-/// Takes an anchor or an alias.
-#[inline(always)]
-fn take_anchor_or_alias(
-    alloc: Global,
-    cursor: &mut cursor_t,
-    anchor: bool,
-) -> Result<yaml_lexeme_t, yaml_refusal_t>
-    ensures { Gives lexeme_of result cursor.new
-        (lexeme (whole (sets.anchor_or_alias anchor)) cursor.old (names.name cursor.old)) }
-{
-    let start = cursor.mark();
-    match take_name(alloc, cursor) {
-        Ok(value) => Ok(whole_of(anchor_or_alias(anchor, value), start, cursor.mark())),
-        Err(refusal) => Err(refused(refusal)),
-    }
-}
-
-/// Takes a tag.
-#[inline(always)]
-fn take_whole_tag(
-    alloc: Global,
-    cursor: &mut cursor_t,
-    context: yaml_context_t,
-) -> Result<yaml_lexeme_t, yaml_refusal_t>
-    ensures { Gives lexeme_of result cursor.new
-        (lexeme (whole (λ t. t)) cursor.old (tags.tag (spec.in_flow context) cursor.old)) }
-{
-    let start = cursor.mark();
-    match take_tag(alloc, cursor, context.depth > 0) {
-        Ok(says) => Ok(whole_of(says, start, cursor.mark())),
-        Err(refusal) => Err(refused(refusal)),
-    }
-}
-
-/// Takes a directive.
-#[inline(never)]
-fn take_whole_directive(
-    alloc: Global,
-    cursor: &mut cursor_t,
-) -> Result<yaml_lexeme_t, yaml_refusal_t>
-    ensures { Gives lexeme_of result cursor.new (lexeme directive_to cursor.old (directives.directive cursor.old)) }
-{
-    let start = cursor.mark();
-    let directive = take_directive(alloc, cursor)?;
-    Ok(directive_to(start, directive, cursor.mark()))
-}
-
-fn block_style(folded: bool) -> yaml_scalar_style_t
-    ensures { result ≡ sets.block_style folded }
-{
-    if folded {
-        yaml_scalar_style_t::YAML_FOLDED_SCALAR_STYLE
-    } else {
-        yaml_scalar_style_t::YAML_LITERAL_SCALAR_STYLE
-    }
-}
-
-/// Takes a literal or folded scalar.
-#[inline(always)]
-fn take_block_scalar(
-    room: Vec<u8>,
-    cursor: &mut cursor_t,
-    folded: bool,
-    context: yaml_context_t,
-) -> Result<yaml_lexeme_t, yaml_refusal_t>
-    requires { spec.least context + 10 < 2 ^ 64 }
-    ensures { Gives lexeme_of result cursor.new
-        (lexeme (scalar_to (sets.block_style folded)) cursor.old (blocks.block folded context.level cursor.old)) }
-{
-    let start = cursor.mark();
-    match take_block(room, cursor, folded, context.level) {
-        Ok(scalar) => Ok(scalar_to(block_style(folded), start, scalar, cursor.mark())),
-        Err(refusal) => Err(refused(refusal)),
-    }
-}
-
-/// What a quoted scalar says.
-fn quoted_as(value: Vec<u8>, style: yaml_scalar_style_t) -> unnamed_yaml_token_t_data
-    ensures { data_of result ≡ sets.quoted_as style value.items }
-{
-    unnamed_yaml_token_t_data::SCALAR { value, style }
-}
-
-fn quoted_style(single: bool) -> yaml_scalar_style_t
-    ensures { result ≡ sets.quoted_style single }
-{
-    if single {
-        yaml_scalar_style_t::YAML_SINGLE_QUOTED_SCALAR_STYLE
-    } else {
-        yaml_scalar_style_t::YAML_DOUBLE_QUOTED_SCALAR_STYLE
-    }
-}
-
-/// Takes a quoted scalar.
-#[inline(always)]
-fn take_quoted_scalar(
-    room: Vec<u8>,
-    cursor: &mut cursor_t,
-    single: bool,
-) -> Result<yaml_lexeme_t, yaml_refusal_t>
-    ensures { Gives lexeme_of result cursor.new
-        (lexeme (whole (sets.quoted_as (sets.quoted_style single))) cursor.old (quotes.quoted single cursor.old)) }
-{
-    let start = cursor.mark();
-    match take_quoted(room, cursor, single) {
-        Ok(value) => Ok(whole_of(quoted_as(value, quoted_style(single)), start, cursor.mark())),
-        Err(refusal) => Err(refused(refusal)),
-    }
-}
-
-/// Takes a plain scalar.
-#[inline(always)]
-fn take_plain_scalar(
-    room: Vec<u8>,
-    cursor: &mut cursor_t,
-    context: yaml_context_t,
-) -> Result<yaml_lexeme_t, yaml_refusal_t>
-    requires { spec.least context + 10 < 2 ^ 64 }
-    ensures { Gives lexeme_of result cursor.new
-        (lexeme (scalar_to YAML_PLAIN_SCALAR_STYLE) cursor.old
-        (plains.plain (spec.in_flow context) (spec.least context) cursor.old)) }
-{
-    let start = cursor.mark();
-    match take_plain(room, cursor, context.depth > 0, least(context)) {
-        Ok(scalar) => Ok(scalar_to(
-            yaml_scalar_style_t::YAML_PLAIN_SCALAR_STYLE,
-            start,
-            scalar,
-            cursor.mark(),
-        )),
-        Err(refusal) => Err(refused(refusal)),
-    }
-}
-
-/// Takes an anchor or an alias in a function of its own.
-#[inline(never)]
-fn take_name_apart(
-    alloc: Global,
-    cursor: &mut cursor_t,
-    anchor: bool,
-) -> Result<yaml_lexeme_t, yaml_refusal_t>
-    ensures { Gives lexeme_of result cursor.new
-        (lexeme (whole (sets.anchor_or_alias anchor)) cursor.old (names.name cursor.old)) }
-{
-    take_anchor_or_alias(alloc, cursor, anchor)
-}
-
-/// Takes a tag in a function of its own.
-#[inline(never)]
-fn take_tag_apart(
-    alloc: Global,
-    cursor: &mut cursor_t,
-    context: yaml_context_t,
-) -> Result<yaml_lexeme_t, yaml_refusal_t>
-    ensures { Gives lexeme_of result cursor.new
-        (lexeme (whole (λ t. t)) cursor.old (tags.tag (spec.in_flow context) cursor.old)) }
-{
-    take_whole_tag(alloc, cursor, context)
-}
-
-/// Takes a literal or folded scalar in a function of its own.
-#[inline(never)]
-fn take_block_apart(
-    room: Vec<u8>,
-    cursor: &mut cursor_t,
-    folded: bool,
-    context: yaml_context_t,
-) -> Result<yaml_lexeme_t, yaml_refusal_t>
-    requires { spec.least context + 10 < 2 ^ 64 }
-    ensures { Gives lexeme_of result cursor.new
-        (lexeme (scalar_to (sets.block_style folded)) cursor.old (blocks.block folded context.level cursor.old)) }
-{
-    take_block_scalar(room, cursor, folded, context)
-}
-
-/// Takes a quoted scalar in a function of its own.
-#[inline(never)]
-fn take_quoted_apart(
-    room: Vec<u8>,
-    cursor: &mut cursor_t,
-    single: bool,
-) -> Result<yaml_lexeme_t, yaml_refusal_t>
-    ensures { Gives lexeme_of result cursor.new
-        (lexeme (whole (sets.quoted_as (sets.quoted_style single))) cursor.old (quotes.quoted single cursor.old)) }
-{
-    take_quoted_scalar(room, cursor, single)
-}
-
-/// Takes a plain scalar in a function of its own.
-#[inline(never)]
-fn take_plain_apart(
-    room: Vec<u8>,
-    cursor: &mut cursor_t,
-    context: yaml_context_t,
-) -> Result<yaml_lexeme_t, yaml_refusal_t>
-    requires { spec.least context + 10 < 2 ^ 64 }
-    ensures { Gives lexeme_of result cursor.new
-        (lexeme (scalar_to YAML_PLAIN_SCALAR_STYLE) cursor.old
-        (plains.plain (spec.in_flow context) (spec.least context) cursor.old)) }
-{
-    take_plain_scalar(room, cursor, context)
-}
-
-/// Takes a lexeme of the kind. Each kind has a function of its own, so that none pays for the room that another needs.
-#[tactic(auto, unfolding(crate::specs::Lex::lex))]
-#[inline(always)]
-fn take_lexeme(
-    alloc: Global,
-    cursor: &mut cursor_t,
-    kind: yaml_lexeme_kind_t,
-    context: yaml_context_t,
-) -> Result<yaml_lexeme_t, yaml_refusal_t>
-    requires room { spec.least context + 10 < 2 ^ 64 }
-    requires there { (flow : Bool) × (kinds.kind_at flow cursor.old ≡ Some kind) }
-    ensures value { Gives lexeme_of result cursor.new (spec.lex kind context cursor.old) }
-    ensures bare { sets.is_bare kind ≡ true → IsOk result }
-{
-    match kind {
-        yaml_lexeme_kind_t::STREAM_END => take_stream_end(cursor),
-        yaml_lexeme_kind_t::DOCUMENT_START => Ok(take_marker(cursor, true)),
-        yaml_lexeme_kind_t::DOCUMENT_END => Ok(take_marker(cursor, false)),
-        yaml_lexeme_kind_t::FLOW_SEQUENCE_START
-        | yaml_lexeme_kind_t::FLOW_MAPPING_START
-        | yaml_lexeme_kind_t::FLOW_SEQUENCE_END
-        | yaml_lexeme_kind_t::FLOW_MAPPING_END
-        | yaml_lexeme_kind_t::FLOW_ENTRY
-        | yaml_lexeme_kind_t::BLOCK_ENTRY
-        | yaml_lexeme_kind_t::KEY
-        | yaml_lexeme_kind_t::VALUE => Ok(take_character(cursor, kind)),
-        yaml_lexeme_kind_t::DIRECTIVE => take_whole_directive(alloc, cursor),
-        yaml_lexeme_kind_t::ALIAS => take_name_apart(alloc, cursor, false),
-        yaml_lexeme_kind_t::ANCHOR => take_name_apart(alloc, cursor, true),
-        yaml_lexeme_kind_t::TAG => take_tag_apart(alloc, cursor, context),
-        yaml_lexeme_kind_t::LITERAL => take_block_apart(Vec::new(alloc), cursor, false, context),
-        yaml_lexeme_kind_t::FOLDED => take_block_apart(Vec::new(alloc), cursor, true, context),
-        yaml_lexeme_kind_t::SINGLE_QUOTED => take_quoted_apart(Vec::new(alloc), cursor, true),
-        yaml_lexeme_kind_t::DOUBLE_QUOTED => take_quoted_apart(Vec::new(alloc), cursor, false),
-        yaml_lexeme_kind_t::PLAIN => take_plain_apart(Vec::new(alloc), cursor, context),
-    }
-}
-
-/// What was taken, or why nothing was; then `there` is set to the mark of the offence.
-#[inline(always)]
-fn read_to(
-    taken: Result<yaml_lexeme_t, yaml_refusal_t>,
-    cursor: &cursor_t,
-    there: &mut yaml_mark_t,
-) -> Result<yaml_lexeme_t, yaml_refusal_t>
-    ensures value { (k : Kind) (p : Place) (read : Read Lexeme) → Gives lexeme_of taken cursor.now read
-        → ReadsAs lexeme_of k p.mark there.new result (answer k p read) }
-    ensures taken { IsOk taken → IsOk result }
-    ensures stays { IsOk result → there.new ≡ there.old }
-{
-    match taken {
-        Ok(lexeme) => Ok(lexeme),
-        Err(refusal) => {
-            *there = cursor.mark();
-            Err(refused(refusal))
-        }
-    }
-}
-
-/// The plain scalar at a spot, or why there is none; then `spot.at` is set to the mark of the offence. With a scalar,
-/// the spot stays as it is.
-///
-/// The place and the context are as for [`yaml_lexeme_at`], and so is the lexeme. [`yaml_lexeme_fault`] makes the fault
-/// of a refusal. Memory may be refused too. The value is put into `room`, in place of what that holds, if it fits.
-#[tactic(auto, unfolding(crate::specs::Lex::lex))]
-#[inline(always)]
-pub fn yaml_read_plain(
-    room: Vec<u8>,
-    spot: &mut yaml_spot_t,
-    context: yaml_context_t,
-) -> Result<yaml_lexeme_t, yaml_refusal_t>
-    requires place { (n : ℕ) × IsMarkOf spot.old.text.now.chars spot.old.at n }
-    requires level { IfSome context.level (λ l. l ≤ length (utf8 spot.old.text.now.chars)) }
-    ensures value { (n : ℕ) → IsMarkOf spot.old.text.now.chars spot.old.at n
-        → ReadsAs lexeme_of PLAIN spot.old.at spot.new.at result
-        (lexeme_at PLAIN context (place_at spot.old.text.now.chars n)) }
-    ensures text { spot.new.text ≡ spot.old.text }
-    ensures stays { IsOk result → spot.new.at ≡ spot.old.at }
-{
-    let mut cursor = cursor_t::at(spot.text, spot.at);
-    let taken = take_plain_scalar(room, &mut cursor, context);
-    read_to(taken, &cursor, &mut spot.at)
-}
-
-/// The quoted scalar at a place, or why there is none, as [`yaml_read_plain`] returns a plain one. `single`: it is in
-/// single quotes.
-#[tactic(auto, unfolding(crate::specs::Lex::lex))]
-#[inline(always)]
-pub fn yaml_read_quoted(
-    room: Vec<u8>,
-    spot: &mut yaml_spot_t,
-    single: bool,
-) -> Result<yaml_lexeme_t, yaml_refusal_t>
-    requires { (n : ℕ) × IsMarkOf spot.old.text.now.chars spot.old.at n }
-    ensures value { (n : ℕ) (context : yaml_context_t) → IsMarkOf spot.old.text.now.chars spot.old.at n
-        → ReadsAs lexeme_of (sets.quoted_kind single) spot.old.at spot.new.at result
-        (lexeme_at (sets.quoted_kind single) context (place_at spot.old.text.now.chars n)) }
-    ensures text { spot.new.text ≡ spot.old.text }
-    ensures stays { IsOk result → spot.new.at ≡ spot.old.at }
-{
-    let mut cursor = cursor_t::at(spot.text, spot.at);
-    let taken = take_quoted_scalar(room, &mut cursor, single);
-    read_to(taken, &cursor, &mut spot.at)
-}
-
-/// The literal or folded scalar at a place, or why there is none, as [`yaml_read_plain`] returns a plain one.
-#[tactic(auto, unfolding(crate::specs::Lex::lex))]
-#[inline(always)]
-pub fn yaml_read_block(
-    room: Vec<u8>,
-    spot: &mut yaml_spot_t,
-    folded: bool,
-    context: yaml_context_t,
-) -> Result<yaml_lexeme_t, yaml_refusal_t>
-    requires place { (n : ℕ) × IsMarkOf spot.old.text.now.chars spot.old.at n }
-    requires level { IfSome context.level (λ l. l ≤ length (utf8 spot.old.text.now.chars)) }
-    ensures value { (n : ℕ) → IsMarkOf spot.old.text.now.chars spot.old.at n
-        → ReadsAs lexeme_of (sets.block_kind folded) spot.old.at spot.new.at result
-        (lexeme_at (sets.block_kind folded) context (place_at spot.old.text.now.chars n)) }
-    ensures text { spot.new.text ≡ spot.old.text }
-    ensures stays { IsOk result → spot.new.at ≡ spot.old.at }
-{
-    let mut cursor = cursor_t::at(spot.text, spot.at);
-    let taken = take_block_scalar(room, &mut cursor, folded, context);
-    read_to(taken, &cursor, &mut spot.at)
-}
-
-/// The anchor or alias at a place, or why there is none, as [`yaml_read_plain`] returns a plain scalar. `anchor`: it is
-/// an anchor.
-#[tactic(auto, unfolding(crate::specs::Lex::lex))]
-#[inline(always)]
-pub fn yaml_read_name(
-    alloc: Global,
-    spot: &mut yaml_spot_t,
-    anchor: bool,
-) -> Result<yaml_lexeme_t, yaml_refusal_t>
-    requires { (n : ℕ) × IsMarkOf spot.old.text.now.chars spot.old.at n }
-    ensures value { (n : ℕ) (context : yaml_context_t) → IsMarkOf spot.old.text.now.chars spot.old.at n
-        → ReadsAs lexeme_of (sets.name_kind anchor) spot.old.at spot.new.at result
-        (lexeme_at (sets.name_kind anchor) context (place_at spot.old.text.now.chars n)) }
-    ensures text { spot.new.text ≡ spot.old.text }
-    ensures stays { IsOk result → spot.new.at ≡ spot.old.at }
-{
-    let mut cursor = cursor_t::at(spot.text, spot.at);
-    let taken = take_anchor_or_alias(alloc, &mut cursor, anchor);
-    read_to(taken, &cursor, &mut spot.at)
-}
-
-/// The tag at a place, or why there is none, as [`yaml_read_plain`] returns a plain scalar.
-#[tactic(auto, unfolding(crate::specs::Lex::lex))]
-#[inline(always)]
-pub fn yaml_read_tag(
-    alloc: Global,
-    spot: &mut yaml_spot_t,
-    context: yaml_context_t,
-) -> Result<yaml_lexeme_t, yaml_refusal_t>
-    requires { (n : ℕ) × IsMarkOf spot.old.text.now.chars spot.old.at n }
-    ensures value { (n : ℕ) → IsMarkOf spot.old.text.now.chars spot.old.at n
-        → ReadsAs lexeme_of TAG spot.old.at spot.new.at result
-        (lexeme_at TAG context (place_at spot.old.text.now.chars n)) }
-    ensures text { spot.new.text ≡ spot.old.text }
-    ensures stays { IsOk result → spot.new.at ≡ spot.old.at }
-{
-    let mut cursor = cursor_t::at(spot.text, spot.at);
-    let taken = take_whole_tag(alloc, &mut cursor, context);
-    read_to(taken, &cursor, &mut spot.at)
+    whole_of(says_of(yaml_marker_kind(start)), at, cursor.mark())
 }
 
 /// The lexeme of one character at a place. No memory is taken.
@@ -557,9 +156,26 @@ pub fn yaml_read_stream_end(text: &yaml_text_t, at: yaml_mark_t) -> yaml_lexeme_
     stream_end_at(&cursor_t::at(text, at))
 }
 
-/// The lexeme of any kind at a place, or why there is none, as [`yaml_read_plain`] returns a plain scalar.
+/// Reads a lexeme by a reader, in a function of its own.
 #[inline(never)]
-pub fn yaml_read_lexeme(
+fn read_apart<R: yaml_reader_t>(
+    alloc: Global,
+    spot: &mut yaml_spot_t,
+    context: yaml_context_t,
+) -> Result<yaml_lexeme_t, yaml_refusal_t>
+    requires place { (n : ℕ) × IsMarkOf spot.old.text.now.chars spot.old.at n }
+    requires level { IfSome context.level (λ l. l ≤ length (utf8 spot.old.text.now.chars)) }
+    ensures { (n : ℕ) → IsMarkOf spot.old.text.now.chars spot.old.at n
+        → ReadsAs lexeme_of R.KIND spot.old.at spot.new.at result
+        (lexeme_at R.KIND context (place_at spot.old.text.now.chars n)) }
+{
+    R::read(alloc, Vec::new(alloc), spot, context)
+}
+
+/// Reads a lexeme of a kind. Each reader has a function of its own, so that no kind pays for the room that another
+/// needs.
+#[inline(always)]
+fn read_kind(
     alloc: Global,
     spot: &mut yaml_spot_t,
     kind: yaml_lexeme_kind_t,
@@ -572,12 +188,33 @@ pub fn yaml_read_lexeme(
         → ReadsAs lexeme_of kind spot.old.at spot.new.at result
         (lexeme_at kind context (place_at spot.old.text.now.chars n)) }
     ensures bare { sets.is_bare kind ≡ true → IsOk result }
-    ensures text { spot.new.text ≡ spot.old.text }
-    ensures stays { IsOk result → spot.new.at ≡ spot.old.at }
 {
-    let mut cursor = cursor_t::at(spot.text, spot.at);
-    let taken = take_lexeme(alloc, &mut cursor, kind, context);
-    read_to(taken, &cursor, &mut spot.at)
+    match kind {
+        yaml_lexeme_kind_t::STREAM_END => Ok(yaml_read_stream_end(spot.text, spot.at)),
+        yaml_lexeme_kind_t::DOCUMENT_START => Ok(yaml_read_marker(spot.text, spot.at, true)),
+        yaml_lexeme_kind_t::DOCUMENT_END => Ok(yaml_read_marker(spot.text, spot.at, false)),
+        yaml_lexeme_kind_t::FLOW_SEQUENCE_START
+        | yaml_lexeme_kind_t::FLOW_MAPPING_START
+        | yaml_lexeme_kind_t::FLOW_SEQUENCE_END
+        | yaml_lexeme_kind_t::FLOW_MAPPING_END
+        | yaml_lexeme_kind_t::FLOW_ENTRY
+        | yaml_lexeme_kind_t::BLOCK_ENTRY
+        | yaml_lexeme_kind_t::KEY
+        | yaml_lexeme_kind_t::VALUE => Ok(yaml_read_character(spot.text, spot.at, kind)),
+        yaml_lexeme_kind_t::DIRECTIVE => read_apart::<directive_reader_t>(alloc, spot, context),
+        yaml_lexeme_kind_t::ALIAS => read_apart::<name_reader_t<false>>(alloc, spot, context),
+        yaml_lexeme_kind_t::ANCHOR => read_apart::<name_reader_t<true>>(alloc, spot, context),
+        yaml_lexeme_kind_t::TAG => read_apart::<tag_reader_t>(alloc, spot, context),
+        yaml_lexeme_kind_t::LITERAL => read_apart::<block_reader_t<false>>(alloc, spot, context),
+        yaml_lexeme_kind_t::FOLDED => read_apart::<block_reader_t<true>>(alloc, spot, context),
+        yaml_lexeme_kind_t::SINGLE_QUOTED => {
+            read_apart::<quoted_reader_t<true>>(alloc, spot, context)
+        }
+        yaml_lexeme_kind_t::DOUBLE_QUOTED => {
+            read_apart::<quoted_reader_t<false>>(alloc, spot, context)
+        }
+        yaml_lexeme_kind_t::PLAIN => read_apart::<plain_reader_t>(alloc, spot, context),
+    }
 }
 
 /// The fault of a refusal: of a lexeme of a kind that starts at `at`, for an offence at `there`.
@@ -648,9 +285,9 @@ pub fn yaml_lexeme_at(
         → Answers lexeme_of result (lexeme_at kind context (place_at text.now.chars n)) }
     ensures bare { sets.is_bare kind ≡ true → IsOk result }
 {
-    let mut cursor = cursor_t::at(text, at);
-    match take_lexeme(alloc, &mut cursor, kind, context) {
+    let mut spot = yaml_spot_t { text, at };
+    match read_kind(alloc, &mut spot, kind, context) {
         Ok(lexeme) => Ok(lexeme),
-        Err(refusal) => Err(yaml_lexeme_fault(refusal, kind, at, cursor.mark())),
+        Err(refusal) => Err(yaml_lexeme_fault(refusal, kind, at, spot.at)),
     }
 }

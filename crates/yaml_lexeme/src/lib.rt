@@ -17,6 +17,7 @@ mod place;
 mod plain;
 mod problem;
 mod quoted;
+mod reader;
 mod runs;
 mod short;
 mod stream_end;
@@ -26,9 +27,12 @@ mod uri;
 pub use gap::yaml_gap;
 pub use kind::{yaml_decider_at, yaml_lexeme_kind, yaml_lexeme_kind_t};
 pub use lex::{
-    yaml_context_t, yaml_lexeme_at, yaml_lexeme_fault, yaml_read_block, yaml_read_character,
-    yaml_read_lexeme, yaml_read_marker, yaml_read_name, yaml_read_plain, yaml_read_quoted,
-    yaml_read_stream_end, yaml_read_tag, yaml_spot_t,
+    yaml_context_t, yaml_lexeme_at, yaml_lexeme_fault, yaml_marker_kind, yaml_read_character,
+    yaml_read_marker, yaml_read_stream_end, yaml_spot_t,
 };
 pub use lexeme::yaml_lexeme_t;
 pub use problem::{yaml_problem_t, yaml_refusal_t};
+pub use reader::{
+    block_reader_t, directive_reader_t, name_reader_t, plain_reader_t, quoted_reader_t,
+    tag_reader_t, yaml_reader_t,
+};

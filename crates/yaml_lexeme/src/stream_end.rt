@@ -1,13 +1,11 @@
 //! The stream end.
-ghost use Rattle.std.specs.Prelude.{◌≡◌, ◌+◌, ◌<◌, ◌^◌, IsOk};
+ghost use Rattle.std.specs.Prelude.{◌≡◌, ◌+◌, ◌<◌, ◌^◌};
 ghost use Rattle.yaml_lexeme.specs.StreamEnd as spec;
 ghost use Rattle.yaml_lexeme.specs.LexemeOf.{lexeme_of};
-ghost use Rattle.yaml_lexeme.specs.inside.Gives.{Gives};
 ghost use Rattle.yaml_lexeme.specs.Reading.{found};
 
 use crate::lexeme::{whole_of, yaml_lexeme_t};
 use crate::place::cursor_t;
-use crate::problem::yaml_refusal_t;
 use yaml_text::{unnamed_yaml_token_t_data, yaml_mark_t};
 
 /// The mark of a stream end: that of the text's end, or of the next line's start if the column there is not 0.
@@ -33,13 +31,4 @@ pub(crate) fn stream_end_at(cursor: &cursor_t) -> yaml_lexeme_t
 {
     let mark = stream_end(cursor.mark());
     whole_of(unnamed_yaml_token_t_data::STREAM_END, mark, mark)
-}
-
-/// Takes the stream end.
-#[inline(never)]
-pub(crate) fn take_stream_end(cursor: &mut cursor_t) -> Result<yaml_lexeme_t, yaml_refusal_t>
-    ensures value { Gives lexeme_of result cursor.new (spec.at_end cursor.old) }
-    ensures taken { IsOk result }
-{
-    Ok(stream_end_at(cursor))
 }

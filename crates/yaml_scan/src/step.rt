@@ -20,13 +20,12 @@ use crate::kind::step_t;
 use crate::layout::{end_character, end_laid, end_queued, lay_read};
 use crate::scanner::state_t;
 use crate::sink::{no_sink_t, yaml_token_sink_t};
-use crate::source::{
-    block_reader_t, directive_reader_t, gap_end, kind_at, marker_kind, name_reader_t,
-    plain_reader_t, quoted_reader_t, read_character, read_lexeme, read_marker, read_stream_end,
-    reader_t, tag_reader_t,
-};
+use crate::source::{gap_end, kind_at, read_character, read_lexeme, read_marker, read_stream_end};
 use crate::stop::{stop_at_kind, stop_at_start, stop_in_gap, stop_t, stop_without_kind, stopped};
-use yaml_lexeme::yaml_lexeme_kind_t;
+use yaml_lexeme::{
+    block_reader_t, directive_reader_t, name_reader_t, plain_reader_t, quoted_reader_t,
+    tag_reader_t, yaml_lexeme_kind_t, yaml_marker_kind, yaml_reader_t,
+};
 use yaml_text::yaml_text_t;
 
 /// Whether there is room for what the step of a lexeme of a kind may keep: for one more group, for one more depth if it
@@ -131,7 +130,7 @@ pub(crate) fn begin_step(
 
 /// Makes the step of a lexeme that may be refused, of the kind of a reader.
 #[inline(never)]
-fn step_lexeme<R: reader_t, const IN_FLOW: bool, const DIRECT: bool, S: yaml_token_sink_t>(
+fn step_lexeme<R: yaml_reader_t, const IN_FLOW: bool, const DIRECT: bool, S: yaml_token_sink_t>(
     text: &yaml_text_t,
     state: &mut state_t,
     sink: &mut S,
@@ -159,7 +158,7 @@ fn step_lexeme<R: reader_t, const IN_FLOW: bool, const DIRECT: bool, S: yaml_tok
 /// Makes the step of a lexeme that may be refused, of the kind of a reader. Its group goes into the queue, so one
 /// function serves every sink.
 #[inline(always)]
-fn step_queued<R: reader_t, const IN_FLOW: bool>(
+fn step_queued<R: yaml_reader_t, const IN_FLOW: bool>(
     text: &yaml_text_t,
     state: &mut state_t,
 ) -> Result<(), stop_t>
@@ -206,7 +205,7 @@ fn step_marker<const IN_FLOW: bool, const START: bool>(
     requires { Comes before (scanner_of text.now state.old) IN_FLOW (marker_kind START) }
     ensures { IsStep before (scanner_of text.now state.old) (scanner_of text.now state.new) result }
 {
-    match begin_step(text, state, IN_FLOW, marker_kind(START)) {
+    match begin_step(text, state, IN_FLOW, yaml_marker_kind(START)) {
         Ok(step) => {
             let lexeme = read_marker(text, state, START);
             end_queued(text, state, step, lexeme)

@@ -22,4 +22,4 @@ pass-requires-3 c =
 pub returns : goal.returns
 returns c =
     let e = three_on c.args.cursor.now c.pass.new.self c.pass-2.new.self c.pass-3.new.self c.pass.ensures c.pass-2.ensures c.pass-3.ensures in
-    rw (← e, c.whole_of.ensures, c.says_of.ensures, c.marker_kind.ensures, c.mark.ensures.value, c.mark-at.ensures.value) refl
+    rw (← e, c.whole_of.ensures, c.says_of.ensures, c.yaml_marker_kind.ensures, c.mark.ensures.value, c.mark-at.ensures.value) refl

@@ -1,0 +1,7 @@
+use Rattle.std.proofs.Common.{rules}
+use Rattle.yaml_lexeme.specs.Lex.{lex}
+use Rattle.yaml_lexeme.proofs.reader.Directive_reader_tyaml_reader_t.read.Goals as goal
+
+pub returns-in-Ok-clause-value : goal.returns-in-Ok-clause-value
+unfolding lex
+returns-in-Ok-clause-value c = search rules
