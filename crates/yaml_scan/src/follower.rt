@@ -31,7 +31,7 @@ use crate::depth::{is_flow_start, slots_t};
 use crate::groups::{block_t, queue_t};
 use crate::kind::{is_candidate_kind, is_colon, step_t};
 use crate::levels::{close_levels, closing, is_new_level, open_level};
-use crate::scanner::state_t;
+use crate::state::state_t;
 use crate::source::{decider_at, decider_t};
 use yaml_lexeme::yaml_lexeme_kind_t;
 use yaml_text::{yaml_mark_t, yaml_text_t};

@@ -22,7 +22,7 @@ ghost use Rattle.yaml_scan.specs.Session.Answer.{PEEKED};
 
 use crate::parser::{begin, yaml_parser_t};
 use crate::room::{give_while_room, show_next};
-use crate::scanner::state_t;
+use crate::state::state_t;
 use crate::session::session_t;
 use crate::sink::yaml_token_sink_t;
 use crate::stop::{fault_at, stop_t};

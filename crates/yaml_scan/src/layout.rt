@@ -26,7 +26,7 @@ use crate::groups::{block_t, group_t};
 use crate::keys::{completed_by, is_lost};
 use crate::kind::{is_stream_end, step_t};
 use crate::levels::close_levels;
-use crate::scanner::state_t;
+use crate::state::state_t;
 use crate::sink::{
     hand_keyless, hand_on, hand_token, has_room_for_both, has_room_for_laid, no_sink_t, said_len,
     yaml_token_sink_t,

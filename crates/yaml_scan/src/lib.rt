@@ -16,13 +16,13 @@ mod levels;
 mod near;
 mod parser;
 mod room;
-mod scanner;
 mod session;
 mod settled;
 mod sink;
 #[cfg(test)]
 mod slot_tests;
 mod source;
+mod state;
 mod step;
 mod stop;
 

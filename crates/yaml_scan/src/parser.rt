@@ -35,7 +35,7 @@ use crate::groups::queue_t;
 use crate::keys::KEY_LIMIT;
 use crate::levels::layout_t;
 use crate::near::{near_of, near_start};
-use crate::scanner::state_t;
+use crate::state::state_t;
 use crate::session::{is_last, session_t};
 use crate::settled::settle_head;
 use crate::stop::{fault_at, stop_t};

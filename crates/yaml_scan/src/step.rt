@@ -18,7 +18,7 @@ use crate::depth::is_flow_start;
 use crate::keys::{is_lost, root_at};
 use crate::kind::step_t;
 use crate::layout::{end_character, end_laid, end_queued, lay_read};
-use crate::scanner::state_t;
+use crate::state::state_t;
 use crate::sink::{no_sink_t, yaml_token_sink_t};
 use crate::source::{
     block_reader_t, directive_reader_t, gap_end, kind_at, marker_kind, name_reader_t,

@@ -21,7 +21,7 @@ use crate::allowed::is_key_allowed;
 use crate::depth::candidate_t;
 use crate::keys::{lost_at, root};
 use crate::kind::start_after;
-use crate::scanner::state_t;
+use crate::state::state_t;
 use std::alloc::AllocError;
 use yaml_lexeme::{yaml_lexeme_fault, yaml_lexeme_kind_t, yaml_refusal_t};
 use yaml_text::{yaml_error_type_t, yaml_fault_t, yaml_mark_t, yaml_text_t};

@@ -6,7 +6,7 @@ use Rattle.yaml_text.specs.declared.token.yaml_token_t.{yaml_token_t as code_tok
 use Rattle.yaml_scan.specs.declared.stop.stop_t.{stop_t}
 use Rattle.yaml_scan.specs.declared.parser.yaml_parser_t.TheInside.{Inside}
 use Rattle.yaml_scan.specs.declared.session.session_t.{session_t}
-use Rattle.yaml_scan.specs.declared.scanner.state_t.{state_t}
+use Rattle.yaml_scan.specs.declared.state.state_t.{state_t}
 use Rattle.yaml_scan.specs.Decoded.{decoded_input}
 use Rattle.yaml_scan.specs.Headline.{Calls}
 use Rattle.yaml_scan.specs.KeptCalls.{ComesFirst, HasNoMoreRoom, token_peeked}

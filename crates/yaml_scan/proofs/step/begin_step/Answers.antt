@@ -1,5 +1,5 @@
 use Rattle.std.proofs.Common.{◌+◌, ◌∙◌, Bool, arith, inl, rules, subst}
-use Rattle.yaml_scan.specs.declared.scanner.state_t.{state_t}
+use Rattle.yaml_scan.specs.declared.state.state_t.{state_t}
 use Rattle.yaml_scan.specs.inside.Scanner.{scanner_of}
 use Rattle.yaml_scan.specs.inside.Scanning.{Beside, IsMet, Stays}
 use Rattle.yaml_scan.proofs.RunningStep.StepTests.{falls_in, gap_end_line}
