@@ -1,17 +1,17 @@
 //! Simple keys: the candidate of each flow depth, which a `:` may yet make a key (YAML 1.1, 10.2 Mapping Styles, simple
 //! keys). The slots, and what is kept of a candidate, are types of `depth`.
-ghost use Rattle.std.specs.Prelude.{◌≡◌, ◌+◌, ◌-◌, ◌<◌, ◌&&◌, ◌++◌, ◌∷◌, [], Option, None, map, vec_len};
-ghost use Rattle.std.specs.Prelude.{false, if◌then◌else◌, length, nat_lt, true};
+ghost use Rattle.std.specs.Prelude.{◌≡◌, ◌+◌, ◌-◌, ◌<◌, ◌&&◌, ◌++◌, ◌∷◌, [], Option, None, map, vec_len, false};
+ghost use Rattle.std.specs.Prelude.{if◌then◌else◌, length, nat_lt, true};
 ghost use Rattle.yaml_scan.specs.Kind.{is_flow_start};
 ghost use Rattle.std.specs.Option.{is_some};
 ghost use Rattle.std.specs.Vec.{vec_capacity};
 ghost use Rattle.yaml_scan.specs.inside.Slots.{is_live, still_held, lost_held, needed, slot_after, root_of, held_step};
 ghost use Rattle.yaml_scan.specs.inside.Slots.{completed_held, nested_outer, nested_top, empty_slots, lowest};
-ghost use Rattle.yaml_scan.specs.inside.Slots.{AreEmptyBelow};
-ghost use Rattle.yaml_scan.specs.inside.Slots.{AreNested};
+ghost use Rattle.yaml_scan.specs.inside.Slots.{AreEmptyBelow, AreNested};
 
 use crate::depth::{candidate_t, is_flow_start, nests, slots_t};
-use crate::kind::{is_candidate_kind, is_colon, step_t};
+use crate::kind::{is_candidate_kind, is_colon};
+use crate::met::met_t;
 use yaml_lexeme::yaml_lexeme_kind_t;
 use yaml_text::yaml_mark_t;
 
@@ -259,28 +259,28 @@ impl slots_t {
     /// Moves on after the lexeme of a step: gives up what is stale at a mark, and changes the depth. There is room for
     /// the one that it enters.
     #[inline(always)]
-    fn move_on(&mut self, step: step_t, limit: u64, mark: yaml_mark_t)
-        requires flow { step.in_flow ≡ nat_lt 0 (vec_len self.old.outer) }
+    fn move_on(&mut self, met: met_t, limit: u64, mark: yaml_mark_t)
+        requires flow { met.in_flow ≡ nat_lt 0 (vec_len self.old.outer) }
         requires empty { self.old.not_simple_keys ≡ empty_slots self.old.outer.items }
         requires nested { AreNested self.old.outer.items }
-        requires room { is_flow_start step.kind ≡ true → vec_len self.old.outer < vec_capacity self.old.outer }
+        requires room { is_flow_start met.kind ≡ true → vec_len self.old.outer < vec_capacity self.old.outer }
         ensures outer { self.new.outer.items
-            ≡ nested_outer step.kind (map (still_held limit mark) self.old.outer.items)
+            ≡ nested_outer met.kind (map (still_held limit mark) self.old.outer.items)
             (still_held limit mark self.old.top) }
         ensures top { self.new.top
-            ≡ nested_top step.kind (map (still_held limit mark) self.old.outer.items)
+            ≡ nested_top met.kind (map (still_held limit mark) self.old.outer.items)
             (still_held limit mark self.old.top) }
         ensures empty { self.new.not_simple_keys ≡ empty_slots self.new.outer.items }
         ensures awaited { self.new.awaited ≡ held_step (lowest (self.new.outer.items ++ self.new.top ∷ [])) }
     {
         give_up(&mut self.top, limit, mark);
-        if !step.in_flow && !is_flow_start(step.kind) {
+        if !met.in_flow && !is_flow_start(met.kind) {
             self.awaited = held_step(self.top);
             return;
         }
         let below = give_up_stale(&mut self.outer, self.not_simple_keys, limit, mark);
-        let empty = if nests(step.kind) {
-            self.nest(step.kind);
+        let empty = if nests(met.kind) {
+            self.nest(met.kind);
             count_empty(&self.outer, below)
         } else {
             below
@@ -292,22 +292,22 @@ impl slots_t {
     /// Changes the candidates after the lexeme of a step, which was read to a mark. There is room for the depth that it
     /// enters.
     #[inline(always)]
-    pub(crate) fn keep_candidates(&mut self, step: step_t, limit: u64, mark: yaml_mark_t)
-        requires flow { step.in_flow ≡ nat_lt 0 (vec_len self.old.outer) }
+    pub(crate) fn keep_candidates(&mut self, met: met_t, limit: u64, mark: yaml_mark_t)
+        requires flow { met.in_flow ≡ nat_lt 0 (vec_len self.old.outer) }
         requires empty { self.old.not_simple_keys ≡ empty_slots self.old.outer.items }
         requires nested { AreNested self.old.outer.items }
-        requires room { is_flow_start step.kind ≡ true → vec_len self.old.outer < vec_capacity self.old.outer }
+        requires room { is_flow_start met.kind ≡ true → vec_len self.old.outer < vec_capacity self.old.outer }
         ensures outer { self.new.outer.items
-            ≡ nested_outer step.kind (map (still_held limit mark) self.old.outer.items)
-            (still_held limit mark (slot_after step.kind step.allowed step.new self.old.top)) }
+            ≡ nested_outer met.kind (map (still_held limit mark) self.old.outer.items)
+            (still_held limit mark (slot_after met.kind met.allowed met.new self.old.top)) }
         ensures top { self.new.top
-            ≡ nested_top step.kind (map (still_held limit mark) self.old.outer.items)
-            (still_held limit mark (slot_after step.kind step.allowed step.new self.old.top)) }
+            ≡ nested_top met.kind (map (still_held limit mark) self.old.outer.items)
+            (still_held limit mark (slot_after met.kind met.allowed met.new self.old.top)) }
         ensures empty { self.new.not_simple_keys ≡ empty_slots self.new.outer.items }
         ensures awaited { self.new.awaited ≡ held_step (lowest (self.new.outer.items ++ self.new.top ∷ [])) }
     {
-        change_slot(&mut self.top, step.kind, step.allowed, step.new);
-        self.move_on(step, limit, mark);
+        change_slot(&mut self.top, met.kind, met.allowed, met.new);
+        self.move_on(met, limit, mark);
     }
 
     /// Leaves the candidate of the depth behind at what comes right after it, which may be a flow end, and is no flow

@@ -1,6 +1,6 @@
 //! The layout: of a lexeme that was read it makes a group, which is handed on, unless the step has to stop.
-ghost use Rattle.std.specs.Prelude.{◌≡◌, ◌<◌, ◌++◌, ◌∷◌, List, [], false, length, ℕ, ◌≤◌};
-ghost use Rattle.std.specs.Prelude.{◌||◌, not, IfOk, MatchResult, None, OnOk};
+ghost use Rattle.std.specs.Prelude.{◌≡◌, ◌<◌, ◌++◌, ◌∷◌, List, [], false, length, ℕ, ◌≤◌, ◌||◌, not, IfOk, MatchResult};
+ghost use Rattle.std.specs.Prelude.{None, OnOk};
 ghost use Rattle.std.specs.VecDeque.{deque_capacity};
 ghost use Rattle.yaml_text.specs.declared.token.yaml_token_t.{yaml_token_t as code_token_t};
 ghost use Rattle.yaml_text.specs.declared.types.yaml_mark_t.{yaml_mark_t};
@@ -24,13 +24,11 @@ use crate::allowed::is_allowed_after;
 use crate::follower::{follower_of, lay_followed};
 use crate::groups::{block_t, group_t};
 use crate::keys::{completed_by, is_lost};
-use crate::kind::{is_stream_end, step_t};
+use crate::kind::is_stream_end;
 use crate::levels::close_levels;
+use crate::met::met_t;
+use crate::sink::{hand_keyless, hand_on, hand_token, has_room_for_both, has_room_for_laid, no_sink_t, said_len, yaml_token_sink_t};
 use crate::state::state_t;
-use crate::sink::{
-    hand_keyless, hand_on, hand_token, has_room_for_both, has_room_for_laid, no_sink_t, said_len,
-    yaml_token_sink_t,
-};
 use crate::stop::{stop_after, stop_in_lexeme, stop_t, stopped};
 use yaml_lexeme::{yaml_lexeme_kind_t, yaml_lexeme_t, yaml_refusal_t};
 use yaml_text::{yaml_mark_t, yaml_text_t, yaml_token_t};
@@ -57,33 +55,33 @@ pub(crate) fn token_of(start: yaml_mark_t, lexeme: yaml_lexeme_t) -> yaml_token_
 #[inline(always)]
 pub(crate) fn lay_lexeme(
     state: &mut state_t,
-    step: step_t,
+    met: met_t,
     reach: yaml_mark_t,
     passed_break: bool,
 ) -> (usize, block_t)
     ghost before: { List Laid }
     requires can { (text : Text) × (x : Lexeme) × (IsReadTo x reach passed_break × CanPut before
         (scanner_of text state.old) (groups_in (scanner_of text state.old))
-        (met_in (scanner_of text state.old) step) step.in_flow step.new x) }
-    requires room { (text : Text) × HasRoom (scanner_of text state.old) step.in_flow step.kind }
+        (met_in (scanner_of text state.old) met) met.in_flow met.new x) }
+    requires room { (text : Text) × HasRoom (scanner_of text state.old) met.in_flow met.kind }
     ensures laid { (text : Text) (d : TokenData) (b e : yaml_mark_t) (t : code_token_t)
         → CanPut before (scanner_of text state.old) (groups_in (scanner_of text state.old))
-        (met_in (scanner_of text state.old) step) step.in_flow step.new
-        (read_to d b e reach passed_break) → IsTokenOf t d step.new.start e
-        → IsLaidAs before (scanner_of text state.old) step.kind (scanner_of text state.new)
+        (met_in (scanner_of text state.old) met) met.in_flow met.new
+        (read_to d b e reach passed_break) → IsTokenOf t d met.new.start e
+        → IsLaidAs before (scanner_of text state.old) met.kind (scanner_of text state.new)
         (groups_in (scanner_of text state.new) ++ group_with result.0 result.1 false t ∷ []) }
     ensures reach { state.new.reach ≡ reach }
     ensures room { length state.new.layout.queue.groups.items < deque_capacity state.new.layout.queue.groups }
 {
-    let kind = step.kind;
+    let kind = met.kind;
     let gap_end = state.gap_end;
-    let start = step.new.start;
-    let closed = close_levels(&mut state.layout.levels, step, gap_end);
+    let start = met.new.start;
+    let closed = close_levels(&mut state.layout.levels, met, gap_end);
     let completed = completed_by(kind, state.slots.top, state.limit, start);
-    state.slots.keep_candidates(step, state.limit, reach);
-    let opens = state.layout.put_key(step, completed);
+    state.slots.keep_candidates(met, state.limit, reach);
+    let opens = state.layout.put_key(met, completed);
     state.layout.queue.keep_early(closed.early, gap_end);
-    state.allowed = is_allowed_after(kind, step.in_flow, completed.is_none(), passed_break);
+    state.allowed = is_allowed_after(kind, met.in_flow, completed.is_none(), passed_break);
     state.reach = reach;
     (closed.ends, opens)
 }
@@ -134,24 +132,24 @@ fn has_to_wait<S: yaml_token_sink_t>(
 fn lay_alone<S: yaml_token_sink_t>(
     state: &mut state_t,
     sink: &S,
-    step: step_t,
+    met: met_t,
     reach: yaml_mark_t,
     passed_break: bool,
     texts: u128,
 ) -> (usize, block_t, bool)
     ghost before: { List Laid }
     requires { (text : Text) × (x : Lexeme) × (IsReadTo x reach passed_break
-        × CanLayAll before (scanner_of text state.old) step x) }
+        × CanLayAll before (scanner_of text state.old) met x) }
     ensures laid { (text : Text) (d : TokenData) (b e : yaml_mark_t) (t : code_token_t)
-        → CanLayAll before (scanner_of text state.old) step (read_to d b e reach passed_break)
-        → IsTokenOf t d step.new.start e
-        → IsLaidAlone before (scanner_of text state.old) (scanner_of text state.new) step.kind result.2
+        → CanLayAll before (scanner_of text state.old) met (read_to d b e reach passed_break)
+        → IsTokenOf t d met.new.start e
+        → IsLaidAlone before (scanner_of text state.old) (scanner_of text state.new) met.kind result.2
         (group_with result.0 result.1 false t) }
     ensures room { result.2 ≡ false → S.within sink.now → (t : code_token_t) → said_len (token_of t).token_data ≤ texts
         → (after : S) → S.took sink.now (group_tokens (group_with result.0 result.1 false t)) after → S.within after }
 {
-    let (ends, opens) = lay_lexeme(state, step, reach, passed_break);
-    let waits = has_to_wait(state, sink, step.kind, ends, opens, texts);
+    let (ends, opens) = lay_lexeme(state, met, reach, passed_break);
+    let waits = has_to_wait(state, sink, met.kind, ends, opens, texts);
     (ends, opens, waits)
 }
 
@@ -170,25 +168,25 @@ fn lay_all<const DIRECT: bool, S: yaml_token_sink_t>(
     text: &yaml_text_t,
     state: &mut state_t,
     sink: &S,
-    step: step_t,
+    met: met_t,
     reach: yaml_mark_t,
     passed_break: bool,
     texts: u128,
 ) -> laid_t
     ghost before: { List Laid }
     requires { (x : Lexeme) × (IsReadTo x reach passed_break × CanLayAll before
-        (scanner_of text.now state.old) step x) }
+        (scanner_of text.now state.old) met x) }
     ensures laid { (d : TokenData) (b e : yaml_mark_t) (t : code_token_t)
-        → CanLayAll before (scanner_of text.now state.old) step (read_to d b e reach passed_break)
-        → IsTokenOf t d step.new.start e
+        → CanLayAll before (scanner_of text.now state.old) met (read_to d b e reach passed_break)
+        → IsTokenOf t d met.new.start e
         → WasLaid before (scanner_of text.now state.old) (scanner_of text.now state.new) DIRECT result t }
     ensures room { FindsRoom result texts (S.within sink.now) (λ tokens. (after : S) → S.took sink.now tokens after
         → S.within after) }
 {
     let direct = has_room_for_both::<DIRECT, S>(sink, &state.layout.levels, texts);
-    match follower_of(text, state, !direct, step, reach) {
+    match follower_of(text, state, !direct, met, reach) {
         Some(follower) => {
-            let (ends, opens, key) = lay_followed(state, step, reach, &follower);
+            let (ends, opens, key) = lay_followed(state, met, reach, &follower);
             laid_t {
                 ends,
                 opens,
@@ -198,7 +196,7 @@ fn lay_all<const DIRECT: bool, S: yaml_token_sink_t>(
             }
         }
         None => {
-            let (ends, opens, waits) = lay_alone(state, sink, step, reach, passed_break, texts);
+            let (ends, opens, waits) = lay_alone(state, sink, met, reach, passed_break, texts);
             laid_t {
                 ends,
                 opens,
@@ -215,22 +213,22 @@ fn lay_all<const DIRECT: bool, S: yaml_token_sink_t>(
 fn check_reach(
     text: &yaml_text_t,
     state: &mut state_t,
-    step: step_t,
+    met: met_t,
     lexeme: &yaml_lexeme_t,
 ) -> Result<(), stop_t>
     ghost before: { List Laid }
-    requires { CanRead before (scanner_of text.now state.old) step
+    requires { CanRead before (scanner_of text.now state.old) met
         × ((p : ℕ) → IsMarkOf text.now.chars state.old.gap_end p
-        → IsRead text.now.chars step.kind step.context.depth step.context.level p (lexeme_of lexeme.now)) }
+        → IsRead text.now.chars met.kind met.context.depth met.context.level p (lexeme_of lexeme.now)) }
     ensures { MatchResult result
-        (λ _. (state.new ≡ state.old) × CanLayAll before (scanner_of text.now state.old) step (lexeme_of lexeme.now))
+        (λ _. (state.new ≡ state.old) × CanLayAll before (scanner_of text.now state.old) met (lexeme_of lexeme.now))
         (λ stop. Refuses before (scanner_of text.now state.old) (scanner_of text.now state.new) stop) }
 {
     let reach = lexeme.reach;
-    let lost = is_lost(state.root_after(step), step.in_flow, state.limit, reach);
+    let lost = is_lost(state.root_after(met), met.in_flow, state.limit, reach);
     if state.near <= reach.index || lost {
         state.there = reach;
-        return Err(stop_after(text, state, step.in_flow, step.kind, step.allowed));
+        return Err(stop_after(text, state, met.in_flow, met.kind, met.allowed));
     }
     Ok(())
 }
@@ -242,29 +240,29 @@ pub(crate) fn end_character<const DIRECT: bool, S: yaml_token_sink_t>(
     text: &yaml_text_t,
     state: &mut state_t,
     sink: &mut S,
-    step: step_t,
+    met: met_t,
     lexeme: yaml_lexeme_t,
 ) -> Result<(), stop_t>
     ghost before: { List Laid }
-    requires { CanRead before (scanner_of text.now state.old) step
+    requires { CanRead before (scanner_of text.now state.old) met
         × ((p : ℕ) → IsMarkOf text.now.chars state.old.gap_end p
-        → IsRead text.now.chars step.kind step.context.depth step.context.level p (lexeme_of lexeme)) }
+        → IsRead text.now.chars met.kind met.context.depth met.context.level p (lexeme_of lexeme)) }
     ensures steps { StepsTo before (scanner_of text.now state.old) (scanner_of text.now state.new) DIRECT
         (λ tokens. S.took sink.old tokens sink.new)
         S.may_refuse result }
     ensures within { OnOk result (S.within sink.old → S.within sink.new) }
 {
-    match check_reach(text, state, step, &lexeme) {
+    match check_reach(text, state, met, &lexeme) {
         Ok(_) => {
             let texts = said_len(&lexeme.token_data);
             let reach = lexeme.reach;
             let passed_break = lexeme.passed_break;
-            let (ends, opens, waits) = lay_alone(state, sink, step, reach, passed_break, texts);
+            let (ends, opens, waits) = lay_alone(state, sink, met, reach, passed_break, texts);
             let group = group_t {
                 ends,
                 opens,
                 key: false,
-                token: token_of(step.new.start, lexeme),
+                token: token_of(met.new.start, lexeme),
             };
             match hand_keyless::<DIRECT, S>(state, sink, waits, group) {
                 Ok(_) => {
@@ -285,12 +283,12 @@ pub(crate) fn lay_read<const DIRECT: bool, S: yaml_token_sink_t>(
     text: &yaml_text_t,
     state: &mut state_t,
     sink: &S,
-    step: step_t,
+    met: met_t,
     read: Result<yaml_lexeme_t, yaml_refusal_t>,
 ) -> Result<(laid_t, yaml_token_t), stop_t>
     ghost before: { List Laid }
-    requires { CanRead before (scanner_of text.now state.old) step
-        × IsReadIn (scanner_of text.now state.old) step.kind step.context state.old.there read }
+    requires { CanRead before (scanner_of text.now state.old) met
+        × IsReadIn (scanner_of text.now state.old) met.kind met.context state.old.there read }
     ensures laid { MatchResult result (λ r. WasLaid before (scanner_of text.now state.old)
         (scanner_of text.now state.new) DIRECT r.0 r.1)
         (λ stop. Refuses before (scanner_of text.now state.old) (scanner_of text.now state.new) stop) }
@@ -298,23 +296,23 @@ pub(crate) fn lay_read<const DIRECT: bool, S: yaml_token_sink_t>(
         (after : S) → S.took sink.now tokens after → S.within after)) }
 {
     match read {
-        Ok(lexeme) => match check_reach(text, state, step, &lexeme) {
+        Ok(lexeme) => match check_reach(text, state, met, &lexeme) {
             Ok(_) => {
                 let texts = said_len(&lexeme.token_data);
                 let laid = lay_all::<DIRECT, S>(
                     text,
                     state,
                     sink,
-                    step,
+                    met,
                     lexeme.reach,
                     lexeme.passed_break,
                     texts,
                 );
-                Ok((laid, token_of(step.new.start, lexeme)))
+                Ok((laid, token_of(met.new.start, lexeme)))
             }
             Err(stop) => Err(stopped(stop)),
         },
-        Err(refusal) => Err(stop_in_lexeme(text, state, step.kind, refusal)),
+        Err(refusal) => Err(stop_in_lexeme(text, state, met.kind, refusal)),
     }
 }
 
@@ -393,14 +391,14 @@ pub(crate) fn end_laid<const DIRECT: bool, S: yaml_token_sink_t>(
 pub(crate) fn end_queued(
     text: &yaml_text_t,
     state: &mut state_t,
-    step: step_t,
+    met: met_t,
     lexeme: yaml_lexeme_t,
 ) -> Result<(), stop_t>
     ghost before: { List Laid }
-    requires { CanRead before (scanner_of text.now state.old) step
+    requires { CanRead before (scanner_of text.now state.old) met
         × ((p : ℕ) → IsMarkOf text.now.chars state.old.gap_end p
-        → IsRead text.now.chars step.kind step.context.depth step.context.level p (lexeme_of lexeme)) }
+        → IsRead text.now.chars met.kind met.context.depth met.context.level p (lexeme_of lexeme)) }
     ensures { IsStep before (scanner_of text.now state.old) (scanner_of text.now state.new) result }
 {
-    end_character::<false, no_sink_t>(text, state, &mut no_sink_t {}, step, lexeme)
+    end_character::<false, no_sink_t>(text, state, &mut no_sink_t {}, met, lexeme)
 }

@@ -11,13 +11,13 @@ ghost use Rattle.yaml_scan.specs.Falling.{IsFalling};
 ghost use Rattle.yaml_scan.specs.Groups.{end_at};
 ghost use Rattle.yaml_scan.specs.Groups.Token.{BlockEnd};
 ghost use Rattle.yaml_scan.specs.inside.Opened.{is_new, opened};
-ghost use Rattle.yaml_scan.specs.inside.Queue.{ends_at, closing, completed_in, opened_by, start_of, Fitting};
-ghost use Rattle.yaml_scan.specs.inside.Queue.{KeepsRest};
+ghost use Rattle.yaml_scan.specs.inside.Queue.{ends_at, closing, completed_in, opened_by, start_of, Fitting, KeepsRest};
 ghost use Rattle.yaml_scan.specs.inside.Slots.{is_level};
 
 use crate::depth::candidate_t;
 use crate::groups::{block_t, queue_t};
-use crate::kind::{is_opener_kind, is_stream_end, stays_open, step_t};
+use crate::kind::{is_opener_kind, is_stream_end, stays_open};
+use crate::met::met_t;
 use yaml_lexeme::yaml_lexeme_kind_t;
 use yaml_text::yaml_mark_t;
 
@@ -61,22 +61,22 @@ pub(crate) struct closed_t {
 
 /// Closes the levels that the lexeme of a step does not keep, greatest first. The gap before it ends at `gap_end`.
 #[inline(always)]
-pub(crate) fn close_levels(levels: &mut Vec<u64>, step: step_t, gap_end: yaml_mark_t) -> closed_t
+pub(crate) fn close_levels(levels: &mut Vec<u64>, met: met_t, gap_end: yaml_mark_t) -> closed_t
     requires { IsFalling (reverse levels.old.items) }
     ensures levels { reverse levels.new.items
-        ≡ filter (stays step.in_flow step.kind step.new.start) (reverse levels.old.items) }
-    ensures ends { ends_at result.early gap_end ++ ends_at result.ends step.new.start
-        ≡ map (λ c. BlockEnd (end_at step.kind gap_end step.new.start c)) (filter (λ c.
-        not (stays step.in_flow step.kind step.new.start c)) (reverse levels.old.items)) }
-    ensures none { is_stream_end step.kind ≡ false → result.early ≡ 0 }
+        ≡ filter (stays met.in_flow met.kind met.new.start) (reverse levels.old.items) }
+    ensures ends { ends_at result.early gap_end ++ ends_at result.ends met.new.start
+        ≡ map (λ c. BlockEnd (end_at met.kind gap_end met.new.start c)) (filter (λ c.
+        not (stays met.in_flow met.kind met.new.start c)) (reverse levels.old.items)) }
+    ensures none { is_stream_end met.kind ≡ false → result.early ≡ 0 }
     ensures len { vec_len levels.new ≤ vec_len levels.old }
     ensures capacity { vec_capacity levels.new ≡ vec_capacity levels.old }
 {
     let mut early = 0;
     let mut ends = 0;
-    while let Some(last) = closing(levels, step.in_flow, step.kind, step.new.start) {
+    while let Some(last) = closing(levels, met.in_flow, met.kind, met.new.start) {
         levels.pop();
-        if ends_early(step.kind, gap_end, last) {
+        if ends_early(met.kind, gap_end, last) {
             early += 1;
         } else {
             ends += 1;
@@ -174,17 +174,17 @@ pub(crate) fn block_start(opens: bool, kind: yaml_lexeme_kind_t) -> block_t
 
 /// Opens a level at the lexeme of a step, which completes nothing, if it does. Outside flow there is room for one.
 #[inline(always)]
-fn open_block(levels: &mut Vec<u64>, step: step_t) -> block_t
+fn open_block(levels: &mut Vec<u64>, met: met_t) -> block_t
     requires falls { IsFalling (reverse levels.old.items) }
-    requires room { step.in_flow ≡ false → vec_len levels.old < vec_capacity levels.old }
+    requires room { met.in_flow ≡ false → vec_len levels.old < vec_capacity levels.old }
     ensures levels { reverse levels.new.items
-        ≡ opened step.in_flow None step.kind step.new.start (reverse levels.old.items) }
-    ensures opens { result ≡ opened_by step.in_flow None step.kind step.new.start.column (reverse levels.old.items) }
+        ≡ opened met.in_flow None met.kind met.new.start (reverse levels.old.items) }
+    ensures opens { result ≡ opened_by met.in_flow None met.kind met.new.start.column (reverse levels.old.items) }
 {
-    let column = step.new.start.column;
-    let opens = opens_at(levels, step.in_flow, step.kind, column);
+    let column = met.new.start.column;
+    let opens = opens_at(levels, met.in_flow, met.kind, column);
     open_level(levels, opens, column);
-    block_start(opens, step.kind)
+    block_start(opens, met.kind)
 }
 
 /// The open levels, the greatest last, and the queue.
@@ -217,25 +217,25 @@ impl layout_t {
 
     /// Completes a candidate, or opens a level at the lexeme of a step. Outside flow there is room for one.
     #[inline(always)]
-    pub(crate) fn put_key(&mut self, step: step_t, completed: Option<candidate_t>) -> block_t
+    pub(crate) fn put_key(&mut self, met: met_t, completed: Option<candidate_t>) -> block_t
         requires falls { IsFalling (reverse self.old.levels.items) }
         requires fits { Fitting completed self.old.queue.done self.old.queue.groups.items }
-        requires room { step.in_flow ≡ false → vec_len self.old.levels < vec_capacity self.old.levels }
+        requires room { met.in_flow ≡ false → vec_len self.old.levels < vec_capacity self.old.levels }
         ensures levels { reverse self.new.levels.items
-            ≡ opened step.in_flow completed step.kind step.new.start (reverse self.old.levels.items) }
+            ≡ opened met.in_flow completed met.kind met.new.start (reverse self.old.levels.items) }
         ensures groups { self.new.queue.groups.items
-            ≡ completed_in step.in_flow completed (reverse self.old.levels.items) self.old.queue.done
+            ≡ completed_in met.in_flow completed (reverse self.old.levels.items) self.old.queue.done
             self.old.queue.groups.items }
         ensures opens { result
-            ≡ opened_by step.in_flow completed step.kind step.new.start.column (reverse self.old.levels.items) }
+            ≡ opened_by met.in_flow completed met.kind met.new.start.column (reverse self.old.levels.items) }
         ensures rest { KeepsRest self.old.queue self.new.queue }
     {
         match completed {
             Some(held) => {
-                self.complete(step.in_flow, held);
+                self.complete(met.in_flow, held);
                 block_t::NONE
             }
-            None => open_block(&mut self.levels, step),
+            None => open_block(&mut self.levels, met),
         }
     }
 }

@@ -13,6 +13,7 @@ mod kind;
 pub mod laws;
 mod layout;
 mod levels;
+mod met;
 mod near;
 mod parser;
 mod room;

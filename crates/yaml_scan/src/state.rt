@@ -10,8 +10,9 @@ ghost use Rattle.yaml_scan.specs.inside.Slots.{is_level, root_of, slot_after};
 
 use crate::depth::{candidate_t, slots_t};
 use crate::keys::{change_slot, completed_by, needed_at, root_at};
-use crate::kind::{is_candidate_kind, is_colon, problem, start_after, step_t};
+use crate::kind::{is_candidate_kind, is_colon, problem, start_after};
 use crate::levels::{is_level, layout_t, level_at};
+use crate::met::met_t;
 use std::alloc::Global;
 use yaml_lexeme::{yaml_context_t, yaml_lexeme_kind_t};
 use yaml_text::{yaml_fault_t, yaml_mark_t};
@@ -80,7 +81,7 @@ impl state_t {
 
     /// What a lexeme of a kind after the gap is read and laid with.
     #[inline(always)]
-    pub(crate) fn step_of(&self, in_flow: bool, kind: yaml_lexeme_kind_t, allowed: bool) -> step_t
+    pub(crate) fn met_of(&self, in_flow: bool, kind: yaml_lexeme_kind_t, allowed: bool) -> met_t
         requires flow { in_flow ≡ nat_lt 0 (vec_len self.now.slots.outer) }
         requires falls { IsFalling (reverse self.now.layout.levels.items) }
         requires line { self.now.gap_end.line + 1 < 2 ^ 64 }
@@ -94,7 +95,7 @@ impl state_t {
     {
         let start = start_after(kind, self.gap_end);
         let level = level_at(&self.layout.levels, in_flow, kind, start);
-        step_t {
+        met_t {
             kind,
             in_flow,
             allowed,
@@ -108,14 +109,14 @@ impl state_t {
 
     /// The candidate of depth 0 after the lexeme of a step.
     #[inline(always)]
-    pub(crate) fn root_after(&self, step: step_t) -> Option<candidate_t>
-        requires { step.in_flow ≡ nat_lt 0 (vec_len self.now.slots.outer) }
+    pub(crate) fn root_after(&self, met: met_t) -> Option<candidate_t>
+        requires { met.in_flow ≡ nat_lt 0 (vec_len self.now.slots.outer) }
         ensures { result ≡ root_of self.now.slots.outer.items
-            (slot_after step.kind step.allowed step.new self.now.slots.top) }
+            (slot_after met.kind met.allowed met.new self.now.slots.top) }
     {
         let mut top = self.slots.top;
-        change_slot(&mut top, step.kind, step.allowed, step.new);
-        root_at(&self.slots.outer, top, step.in_flow)
+        change_slot(&mut top, met.kind, met.allowed, met.new);
+        root_at(&self.slots.outer, top, met.in_flow)
     }
 }
 

@@ -16,15 +16,11 @@ ghost use Rattle.yaml_scan.specs.inside.Handed.{StepsTo};
 use crate::allowed::is_key_allowed;
 use crate::depth::is_flow_start;
 use crate::keys::{is_lost, root_at};
-use crate::kind::step_t;
 use crate::layout::{end_character, end_laid, end_queued, lay_read};
-use crate::state::state_t;
+use crate::met::met_t;
 use crate::sink::{no_sink_t, yaml_token_sink_t};
-use crate::source::{
-    block_reader_t, directive_reader_t, gap_end, kind_at, marker_kind, name_reader_t,
-    plain_reader_t, quoted_reader_t, read_character, read_lexeme, read_marker, read_stream_end,
-    reader_t, tag_reader_t,
-};
+use crate::source::{block_reader_t, directive_reader_t, gap_end, kind_at, marker_kind, name_reader_t, plain_reader_t, quoted_reader_t, read_character, read_lexeme, read_marker, read_stream_end, reader_t, tag_reader_t};
+use crate::state::state_t;
 use crate::stop::{stop_at_kind, stop_at_start, stop_in_gap, stop_t, stop_without_kind, stopped};
 use yaml_lexeme::yaml_lexeme_kind_t;
 use yaml_text::yaml_text_t;
@@ -110,11 +106,11 @@ pub(crate) fn begin_step(
     state: &mut state_t,
     in_flow: bool,
     kind: yaml_lexeme_kind_t,
-) -> Result<step_t, stop_t>
+) -> Result<met_t, stop_t>
     ghost before: { List Laid }
     requires { Comes before (scanner_of text.now state.old) in_flow kind }
     ensures { MatchResult result
-        (λ step. CanRead before (scanner_of text.now state.new) step × (step.kind ≡ kind) × Stays
+        (λ met. CanRead before (scanner_of text.now state.new) met × (met.kind ≡ kind) × Stays
         (scanner_of text.now state.old) (scanner_of text.now state.new))
         (λ stop. Refuses before (scanner_of text.now state.old) (scanner_of text.now state.new) stop) }
 {
@@ -124,7 +120,7 @@ pub(crate) fn begin_step(
         Err(stop) => return Err(stopped(stop)),
     }
     match ensure_room(state, in_flow, kind) {
-        Ok(_) => Ok(state.step_of(in_flow, kind, allowed)),
+        Ok(_) => Ok(state.met_of(in_flow, kind, allowed)),
         Err(stop) => Err(stopped(stop)),
     }
 }
@@ -144,10 +140,10 @@ fn step_lexeme<R: reader_t, const IN_FLOW: bool, const DIRECT: bool, S: yaml_tok
     ensures within { OnOk result (S.within sink.old → S.within sink.new) }
 {
     match begin_step(text, state, IN_FLOW, R::KIND) {
-        Ok(step) => {
+        Ok(met) => {
             let room = sink.room(state.alloc);
-            let read = read_lexeme::<R>(room, text, state, step.context);
-            match lay_read::<DIRECT, S>(text, state, sink, step, read) {
+            let read = read_lexeme::<R>(room, text, state, met.context);
+            match lay_read::<DIRECT, S>(text, state, sink, met, read) {
                 Ok((laid, token)) => end_laid::<DIRECT, S>(state, sink, laid, token),
                 Err(stop) => Err(stopped(stop)),
             }
@@ -188,9 +184,9 @@ fn step_character<const DIRECT: bool, S: yaml_token_sink_t>(
     ensures within { OnOk result (S.within sink.old → S.within sink.new) }
 {
     match begin_step(text, state, in_flow, kind) {
-        Ok(step) => {
+        Ok(met) => {
             let lexeme = read_character(text, state, kind);
-            end_character::<DIRECT, S>(text, state, sink, step, lexeme)
+            end_character::<DIRECT, S>(text, state, sink, met, lexeme)
         }
         Err(stop) => Err(stopped(stop)),
     }
@@ -207,9 +203,9 @@ fn step_marker<const IN_FLOW: bool, const START: bool>(
     ensures { IsStep before (scanner_of text.now state.old) (scanner_of text.now state.new) result }
 {
     match begin_step(text, state, IN_FLOW, marker_kind(START)) {
-        Ok(step) => {
+        Ok(met) => {
             let lexeme = read_marker(text, state, START);
-            end_queued(text, state, step, lexeme)
+            end_queued(text, state, met, lexeme)
         }
         Err(stop) => Err(stopped(stop)),
     }
@@ -226,9 +222,9 @@ fn step_stream_end<const IN_FLOW: bool>(
     ensures { IsStep before (scanner_of text.now state.old) (scanner_of text.now state.new) result }
 {
     match begin_step(text, state, IN_FLOW, yaml_lexeme_kind_t::STREAM_END) {
-        Ok(step) => {
+        Ok(met) => {
             let lexeme = read_stream_end(text, state);
-            end_queued(text, state, step, lexeme)
+            end_queued(text, state, met, lexeme)
         }
         Err(stop) => Err(stopped(stop)),
     }

@@ -20,8 +20,8 @@ lay_levels-ends-requires-clause-falls g c = λ n.
     let q = c.requires.1.3 in
     let k = c.args.decider.now.kind in
     let y = lexeme_of c.args.decider.now.lexeme in
-    let d : IsDecided s q.0 c.args.step c.args.at k y = subst (λ (w : Bool). IsFollower s q.0 c.args.step c.args.at w k y) n q.1 in
-    decided.falls g.before s c.args.step x r.1 q.0 k y (subst (λ (m : yaml_mark_t). IsDecided s q.0 c.args.step m k y) (sym r.0) d)
+    let d : IsDecided s q.0 c.args.met c.args.at k y = subst (λ (w : Bool). IsFollower s q.0 c.args.met c.args.at w k y) n q.1 in
+    decided.falls g.before s c.args.met x r.1 q.0 k y (subst (λ (m : yaml_mark_t). IsDecided s q.0 c.args.met m k y) (sym r.0) d)
 
 pub drop_candidate-requires : goal.drop_candidate-requires
 drop_candidate-requires g c =
@@ -32,12 +32,12 @@ drop_candidate-requires g c =
     let w = (not (nat_eq g.row.WAITS 0)) in
     let k = c.args.decider.now.kind in
     let y = lexeme_of c.args.decider.now.lexeme in
-    waiting.follower_no_start g.before s c.args.step x r.1 q.0 w k y (subst (λ (m : yaml_mark_t). IsFollower s q.0 c.args.step m w k y) (sym r.0) q.1)
+    waiting.follower_no_start g.before s c.args.met x r.1 q.0 w k y (subst (λ (m : yaml_mark_t). IsFollower s q.0 c.args.met m w k y) (sym r.0) q.1)
 
 pub returns-clause-laid : goal.returns-clause-laid
 returns-clause-laid g c = λ X sparing d b e passed t z p F T Z.
     let s = (scanner_of X c.args.state.now) in
-    let r = c.args.step in
+    let r = c.args.met in
     let k = c.args.decider.now.kind in
     let y = lexeme_of c.args.decider.now.lexeme in
     let x = read_to d b e c.args.at passed in

@@ -14,7 +14,7 @@ use Rattle.yaml_scan.proofs.layout.check_reach.Goals.{then-state-reach-via-then-
 pub stop_after-requires : goal.stop_after-requires
 stop_after-requires g c =
     let s = (scanner_of c.args.text.now c.args.state.now) in
-    let q = c.args.step in
+    let q = c.args.met in
     let x = lexeme_of c.args.lexeme.now in
     let can = c.requires.0 in
     let stops : (s.near ≤ x.reach.index) ⊎ (is_some (lost_after s.limit s.slots (met_in s q) q.new x.reach) ≡ true) = elim c.then-state-reach.branch [

@@ -20,8 +20,8 @@ hand_keyless-requires g c =
       key = A.keyless;
       room = A.room;
       words = A.words;
-      done = done_there g.before s (scanner_of c.args.text.now c.lay_alone-ends.new.state) c.args.step.kind (group_with c.lay_alone-ends.result.0 c.lay_alone-ends.result.1 false c.token_of.result) A.laid A.far A.says A.few;
-      taken = few_there g.before s (scanner_of c.args.text.now c.lay_alone-ends.new.state) c.args.step.kind (group_with c.lay_alone-ends.result.0 c.lay_alone-ends.result.1 false c.token_of.result) A.laid A.far A.says A.few;
+      done = done_there g.before s (scanner_of c.args.text.now c.lay_alone-ends.new.state) c.args.met.kind (group_with c.lay_alone-ends.result.0 c.lay_alone-ends.result.1 false c.token_of.result) A.laid A.far A.says A.few;
+      taken = few_there g.before s (scanner_of c.args.text.now c.lay_alone-ends.new.state) c.args.met.kind (group_with c.lay_alone-ends.result.0 c.lay_alone-ends.result.1 false c.token_of.result) A.laid A.far A.says A.few;
     }
 
 pub returns-in-Ok-hand_keyless-clause-steps : goal.returns-in-Ok-hand_keyless-clause-steps
@@ -30,7 +30,7 @@ returns-in-Ok-hand_keyless-clause-steps g c =
     let A = c.lay_alone-ends.ensures.laid c.args.text.now x.token_data x.start_mark x.end_mark c.token_of.result (rw c.in-Ok.ensures.0 c.in-Ok.ensures.1) c.token_of.ensures in
     let s = (scanner_of c.args.text.now c.check_reach.new.state) in
     rw (← c.in-Ok.ensures.0) (steps_all g.before s (scanner_of c.args.text.now c.hand_keyless.new.state) _ _ 1
-    (alone_handed g.before s (scanner_of c.args.text.now c.lay_alone-ends.new.state) _ c.args.step.kind c.lay_alone-ends.result.2 (group_with c.lay_alone-ends.result.0 c.lay_alone-ends.result.1 false c.token_of.result) A (scanner_of c.args.text.now c.hand_keyless.new.state) (λ ts. g.S.yaml_token_sink_t.took c.args.sink.now ts c.hand_keyless.new.sink) g.S.yaml_token_sink_t.may_refuse (Ok _) (c.in-Ok-hand_keyless.ensures c.args.text.now)))
+    (alone_handed g.before s (scanner_of c.args.text.now c.lay_alone-ends.new.state) _ c.args.met.kind c.lay_alone-ends.result.2 (group_with c.lay_alone-ends.result.0 c.lay_alone-ends.result.1 false c.token_of.result) A (scanner_of c.args.text.now c.hand_keyless.new.state) (λ ts. g.S.yaml_token_sink_t.took c.args.sink.now ts c.hand_keyless.new.sink) g.S.yaml_token_sink_t.may_refuse (Ok _) (c.in-Ok-hand_keyless.ensures c.args.text.now)))
 
 pub returns-in-Ok-hand_keyless-clause-within : goal.returns-in-Ok-hand_keyless-clause-within
 returns-in-Ok-hand_keyless-clause-within g c =
@@ -43,7 +43,7 @@ returns-in-Err-hand_keyless-clause-steps g c =
     let A = c.lay_alone-ends.ensures.laid c.args.text.now x.token_data x.start_mark x.end_mark c.token_of.result (rw c.in-Ok.ensures.0 c.in-Ok.ensures.1) c.token_of.ensures in
     let s = (scanner_of c.args.text.now c.check_reach.new.state) in
     rw (← c.in-Ok.ensures.0) (cut_all g.before s (scanner_of c.args.text.now c.hand_keyless.new.state) _ _ _ c.stopped.result
-    (alone_handed g.before s (scanner_of c.args.text.now c.lay_alone-ends.new.state) _ c.args.step.kind c.lay_alone-ends.result.2 (group_with c.lay_alone-ends.result.0 c.lay_alone-ends.result.1 false c.token_of.result) A (scanner_of c.args.text.now c.hand_keyless.new.state) (λ ts. g.S.yaml_token_sink_t.took c.args.sink.now ts c.hand_keyless.new.sink) g.S.yaml_token_sink_t.may_refuse (Err c.stopped.result) (rw c.stopped.ensures (c.in-Err-hand_keyless.ensures c.args.text.now))))
+    (alone_handed g.before s (scanner_of c.args.text.now c.lay_alone-ends.new.state) _ c.args.met.kind c.lay_alone-ends.result.2 (group_with c.lay_alone-ends.result.0 c.lay_alone-ends.result.1 false c.token_of.result) A (scanner_of c.args.text.now c.hand_keyless.new.state) (λ ts. g.S.yaml_token_sink_t.took c.args.sink.now ts c.hand_keyless.new.sink) g.S.yaml_token_sink_t.may_refuse (Err c.stopped.result) (rw c.stopped.ensures (c.in-Err-hand_keyless.ensures c.args.text.now))))
 
 pub returns-in-Err-clause-steps : goal.returns-in-Err-clause-steps
 returns-in-Err-clause-steps g c = inl (rw c.stopped-in-Err.ensures c.in-Err.ensures, g.met.S.yaml_token_sink_t.took_none c.args.sink.now)
@@ -54,5 +54,5 @@ overflow_add-state g c =
     let A = c.lay_alone-ends.ensures.laid c.args.text.now x.token_data x.start_mark x.end_mark c.token_of.result (rw c.in-Ok.ensures.0 c.in-Ok.ensures.1) c.token_of.ensures in
     let s = (scanner_of c.args.text.now c.check_reach.new.state) in
     let l = few_made g.before s (scanner_of c.args.text.now c.hand_keyless.new.state) _ (λ ts. g.S.yaml_token_sink_t.took c.args.sink.now ts c.hand_keyless.new.sink) g.S.yaml_token_sink_t.may_refuse 1
-    (alone_handed g.before s (scanner_of c.args.text.now c.lay_alone-ends.new.state) _ c.args.step.kind c.lay_alone-ends.result.2 (group_with c.lay_alone-ends.result.0 c.lay_alone-ends.result.1 false c.token_of.result) A (scanner_of c.args.text.now c.hand_keyless.new.state) (λ ts. g.S.yaml_token_sink_t.took c.args.sink.now ts c.hand_keyless.new.sink) g.S.yaml_token_sink_t.may_refuse (Ok _) (c.in-Ok-hand_keyless.ensures c.args.text.now)) A.few in
+    (alone_handed g.before s (scanner_of c.args.text.now c.lay_alone-ends.new.state) _ c.args.met.kind c.lay_alone-ends.result.2 (group_with c.lay_alone-ends.result.0 c.lay_alone-ends.result.1 false c.token_of.result) A (scanner_of c.args.text.now c.hand_keyless.new.state) (λ ts. g.S.yaml_token_sink_t.took c.args.sink.now ts c.hand_keyless.new.sink) g.S.yaml_token_sink_t.may_refuse (Ok _) (c.in-Ok-hand_keyless.ensures c.args.text.now)) A.few in
     omega arith

@@ -7,7 +7,7 @@ use Rattle.yaml_scan.proofs.RunningStep.StepTests.{can_put}
 use Rattle.yaml_scan.proofs.layout.lay_alone.Goals as goal
 
 pub lay_lexeme-ends-requires : goal.lay_lexeme-ends-requires
-lay_lexeme-ends-requires g c = let r = c.requires.1 in ((r.0, r.1, (r.2.0, can_put g.before (scanner_of r.0 c.args.state.now) c.args.step r.1 r.2.1)), (r.0, r.2.1.can.room))
+lay_lexeme-ends-requires g c = let r = c.requires.1 in ((r.0, r.1, (r.2.0, can_put g.before (scanner_of r.0 c.args.state.now) c.args.met r.1 r.2.1)), (r.0, r.2.1.can.room))
 
 pub returns-clause-laid : goal.returns-clause-laid
 returns-clause-laid g c = λ X d b e t p T.
@@ -17,12 +17,12 @@ returns-clause-laid g c = λ X d b e t p T.
     let w = c.has_to_wait-waits.ensures in
     let says = ap (λ (z : yaml_token_t). z.token_data) T in
     record {
-      laid = l.laid X d b e t (can_put g.before s c.args.step x p) T;
-      far = far_there g.before s c.args.step x p _ l.reach;
+      laid = l.laid X d b e t (can_put g.before s c.args.met x p) T;
+      far = far_there g.before s c.args.met x p _ l.reach;
       few = p.can.can.few_steps;
       room = l.room;
-      words = words_there g.before s c.args.step x p _ says;
-      says = says_there g.before s c.args.step x p _ says;
+      words = words_there g.before s c.args.met x p _ says;
+      says = says_there g.before s c.args.met x p _ says;
       keyless = refl;
       last = w.last;
       awaited = w.awaited;

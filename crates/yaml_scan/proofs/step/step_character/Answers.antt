@@ -6,7 +6,7 @@ use Rattle.yaml_scan.proofs.step.step_character.Goals as goal
 
 pub end_character-requires : goal.end_character-requires
 end_character-requires g c = λ κs w. let b = c.in-Ok.ensures in
-    (search rules, (w, (b.0, read_as_met (scanner_of c.args.text.now c.begin_step.new.state) c.args.kind c.in-Ok.step.kind c.in-Ok.step.context (lexeme_of c.read_character-lexeme.result) b.1 c.read_character-lexeme.ensures)))
+    (search rules, (w, (b.0, read_as_met (scanner_of c.args.text.now c.begin_step.new.state) c.args.kind c.in-Ok.met.kind c.in-Ok.met.context (lexeme_of c.read_character-lexeme.result) b.1 c.read_character-lexeme.ensures)))
 
 pub returns-in-Ok-clause-steps : goal.returns-in-Ok-clause-steps
 returns-in-Ok-clause-steps g c = let b = c.in-Ok.ensures in step_to_from g.before (scanner_of c.args.text.now c.args.state.now) (scanner_of c.args.text.now c.begin_step.new.state) (scanner_of c.args.text.now c.end_character.new.state) _ _ _ c.end_character.result b.2 c.end_character.ensures.steps

@@ -7,7 +7,7 @@ use Rattle.yaml_scan.proofs.depth.slots_t.move_on.Goals as goal
 pub count_empty-empty-requires : goal.count_empty-empty-requires
 count_empty-empty-requires c = let hs = c.give_up_stale-below.new.slots.items in
     subst (λ (os : List (Option Held)). AreEmptyBelow c.give_up_stale-below.result os) (sym (c.deref.ensures.value ∙ c.nest.ensures.outer))
-    (subst (λ (n : ℕ). AreEmptyBelow n (nested_outer c.args.step.kind hs c.give_up.new.slot)) (sym c.give_up_stale-below.ensures.empty) (nested_empty c.args.step.kind hs c.give_up.new.slot))
+    (subst (λ (n : ℕ). AreEmptyBelow n (nested_outer c.args.met.kind hs c.give_up.new.slot)) (sym c.give_up_stale-below.ensures.empty) (nested_empty c.args.met.kind hs c.give_up.new.slot))
 
 pub returns-then-not-is_flow_start-clause-empty : goal.returns-then-not-is_flow_start-clause-empty
 returns-then-not-is_flow_start-clause-empty c = search rules
