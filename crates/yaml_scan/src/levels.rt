@@ -1,5 +1,4 @@
-//! Indentation levels: the columns of the block collections that are open (YAML 1.1, 6.1 Indentation Spaces). A key
-//! may open one and mark a group of the queue, so the type that has both is here.
+//! Indentation levels: the columns of the block collections that are open (YAML 1.1, 6.1 Indentation Spaces).
 ghost use Rattle.std.specs.Prelude.{◌≡◌, ◌+◌, ◌-◌, ◌<◌, ◌≤◌, ◌&&◌, ◌++◌, ◌∷◌, [], true, false, not, reverse, map};
 ghost use Rattle.std.specs.Prelude.{filter, length, vec_len, nat_lt, None, Some, if◌then◌else◌};
 ghost use Rattle.std.specs.Vec.{vec_capacity};
@@ -14,8 +13,7 @@ ghost use Rattle.yaml_scan.specs.inside.Opened.{is_new, opened};
 ghost use Rattle.yaml_scan.specs.inside.Queue.{ends_at, closing, completed_in, opened_by, start_of, Fitting, KeepsRest};
 ghost use Rattle.yaml_scan.specs.inside.Slots.{is_level};
 
-use crate::depth::candidate_t;
-use crate::groups::{block_t, queue_t};
+use crate::groups::block_t;
 use crate::kind::{is_opener_kind, is_stream_end, stays_open};
 use crate::met::met_t;
 use yaml_lexeme::yaml_lexeme_kind_t;
@@ -174,7 +172,7 @@ pub(crate) fn block_start(opens: bool, kind: yaml_lexeme_kind_t) -> block_t
 
 /// Opens a level at the lexeme of a step, which completes nothing, if it does. Outside flow there is room for one.
 #[inline(always)]
-fn open_block(levels: &mut Vec<u64>, met: met_t) -> block_t
+pub(crate) fn open_block(levels: &mut Vec<u64>, met: met_t) -> block_t
     requires falls { IsFalling (reverse levels.old.items) }
     requires room { met.in_flow ≡ false → vec_len levels.old < vec_capacity levels.old }
     ensures levels { reverse levels.new.items
@@ -185,57 +183,4 @@ fn open_block(levels: &mut Vec<u64>, met: met_t) -> block_t
     let opens = opens_at(levels, met.in_flow, met.kind, column);
     open_level(levels, opens, column);
     block_start(opens, met.kind)
-}
-
-/// The open levels, the greatest last, and the queue.
-#[derive(Drop)]
-pub(crate) struct layout_t {
-    pub levels: Vec<u64>,
-    pub queue: queue_t,
-}
-
-impl layout_t {
-    /// Completes a candidate. Outside flow there is room for a level.
-    #[inline(always)]
-    fn complete(&mut self, in_flow: bool, held: candidate_t)
-        requires falls { IsFalling (reverse self.old.levels.items) }
-        requires fits { Fitting (Some held) self.old.queue.done self.old.queue.groups.items }
-        requires room { in_flow ≡ false → vec_len self.old.levels < vec_capacity self.old.levels }
-        ensures levels { reverse self.new.levels.items
-            ≡ (if is_new in_flow held.start.column (reverse self.old.levels.items) then held.start.column ∷ [] else [])
-            ++ reverse self.old.levels.items }
-        ensures groups { self.new.queue.groups.items
-            ≡ completed_in in_flow (Some held) (reverse self.old.levels.items) self.old.queue.done
-            self.old.queue.groups.items }
-        ensures rest { KeepsRest self.old.queue self.new.queue }
-    {
-        let opens = is_new_level(&self.levels, in_flow, held.start.column);
-        let at = (held.step - 1 - self.queue.done) as usize;
-        self.queue.mark_key(at, opens);
-        open_level(&mut self.levels, opens, held.start.column);
-    }
-
-    /// Completes a candidate, or opens a level at the lexeme of a step. Outside flow there is room for one.
-    #[inline(always)]
-    pub(crate) fn put_key(&mut self, met: met_t, completed: Option<candidate_t>) -> block_t
-        requires falls { IsFalling (reverse self.old.levels.items) }
-        requires fits { Fitting completed self.old.queue.done self.old.queue.groups.items }
-        requires room { met.in_flow ≡ false → vec_len self.old.levels < vec_capacity self.old.levels }
-        ensures levels { reverse self.new.levels.items
-            ≡ opened met.in_flow completed met.kind met.new.start (reverse self.old.levels.items) }
-        ensures groups { self.new.queue.groups.items
-            ≡ completed_in met.in_flow completed (reverse self.old.levels.items) self.old.queue.done
-            self.old.queue.groups.items }
-        ensures opens { result
-            ≡ opened_by met.in_flow completed met.kind met.new.start.column (reverse self.old.levels.items) }
-        ensures rest { KeepsRest self.old.queue self.new.queue }
-    {
-        match completed {
-            Some(held) => {
-                self.complete(met.in_flow, held);
-                block_t::NONE
-            }
-            None => open_block(&mut self.levels, met),
-        }
-    }
 }

@@ -10,6 +10,7 @@ mod groups;
 mod kept;
 mod keys;
 mod kind;
+mod laid;
 pub mod laws;
 mod layout;
 mod levels;

@@ -33,7 +33,7 @@ ghost use Rattle.yaml_scan.specs.Session.Answer.{TOKEN, FAULT};
 use crate::depth::slots_t;
 use crate::groups::queue_t;
 use crate::keys::KEY_LIMIT;
-use crate::levels::layout_t;
+use crate::layout::layout_t;
 use crate::near::{near_of, near_start};
 use crate::state::state_t;
 use crate::session::{is_last, session_t};

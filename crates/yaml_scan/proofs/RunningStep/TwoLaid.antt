@@ -10,7 +10,7 @@ use Rattle.yaml_lexeme.specs.Counted.{IsMarkOf}
 use Rattle.yaml_scan.specs.Course.{ended}
 use Rattle.yaml_scan.specs.declared.groups.group_t.{group_t}
 use Rattle.yaml_scan.specs.declared.depth.slots_t.{slots_t}
-use Rattle.yaml_scan.specs.declared.levels.layout_t.{layout_t}
+use Rattle.yaml_scan.specs.declared.layout.layout_t.{layout_t}
 use Rattle.yaml_scan.specs.declared.met.met_t.{met_t}
 use Rattle.yaml_scan.specs.inside.Scanner.{Scanner}
 use Rattle.yaml_scan.specs.Allowed.{allowed_after, allows}

@@ -9,7 +9,7 @@ use Rattle.yaml_text.specs.declared.types.yaml_mark_t.{yaml_mark_t}
 use Rattle.yaml_text.specs.Token.{TokenData, token_of}
 use Rattle.yaml_lexeme.specs.Lexeme.{Lexeme as yaml_lexeme_t}
 use Rattle.yaml_scan.specs.declared.stop.stop_t.{stop_t}
-use Rattle.yaml_scan.specs.declared.layout.laid_t.{laid_t}
+use Rattle.yaml_scan.specs.declared.laid.laid_t.{laid_t}
 use Rattle.yaml_scan.specs.declared.stop.stop_t.TheVariants.{SINK}
 use Rattle.yaml_scan.specs.declared.groups.block_t.{block_t}
 use Rattle.yaml_scan.specs.declared.groups.block_t.TheVariants.{NONE, SEQUENCE, MAPPING}

@@ -3,7 +3,7 @@ use Rattle.yaml_scan.specs.Token.{yaml_token_t}
 use Rattle.yaml_scan.specs.inside.Scanner.{scanner_of}
 use Rattle.yaml_scan.specs.inside.Handed.{group_tokens, group_with, lone, tokens_with}
 use Rattle.yaml_scan.proofs.RunningStep.StepHanded.{alone_done, both_done, both_given, both_laid, can_hand, cut_done, first_done, known_after}
-use Rattle.yaml_scan.proofs.layout.hand_laid.Goals as goal
+use Rattle.yaml_scan.proofs.laid.hand_laid.Goals as goal
 
 pub hand_on-requires : goal.hand_on-requires
 hand_on-requires g c =

@@ -10,7 +10,7 @@ use Rattle.yaml_scan.specs.inside.Handed.{read_to}
 use Rattle.yaml_scan.proofs.RunningStep.StepLaid.{levels_fall, l_falls, fitting}
 use Rattle.yaml_scan.proofs.RunningStep.StepPut.{put_advances}
 use Rattle.yaml_scan.proofs.RunningQueue.SlotOrder.{outer_nested}
-use Rattle.yaml_scan.proofs.layout.lay_lexeme.Goals as goal
+use Rattle.yaml_scan.proofs.laid.lay_lexeme.Goals as goal
 
 pub close_levels-closed-requires : goal.close_levels-closed-requires
 close_levels-closed-requires g c = levels_fall g.before (c.args.state.now.made + 1) (scanner_of c.requires.0.0 c.args.state.now) c.requires.0.2.1.can.holds c.requires.0.2.1.can.running (met_in (scanner_of c.requires.0.0 c.args.state.now) c.args.met) c.requires.0.2.1.can.met c.args.met.in_flow c.requires.0.2.1.is_new.flow c.args.met.new.start c.requires.0.2.1.is_new.start

@@ -8,8 +8,8 @@ use Rattle.yaml_scan.specs.inside.Scanning.{lost_after, met_in}
 use Rattle.yaml_scan.specs.inside.Slots.{Held, lost_held}
 use Rattle.yaml_scan.specs.inside.TextReads.{IsRead}
 use Rattle.yaml_scan.proofs.RunningStep.StepMoves.{read_in}
-use Rattle.yaml_scan.proofs.layout.check_reach.Goals as goal
-use Rattle.yaml_scan.proofs.layout.check_reach.Goals.{then-state-reach-via-then-state-reach, then-state-reach-via-else-state-reach+then-lost}
+use Rattle.yaml_scan.proofs.laid.check_reach.Goals as goal
+use Rattle.yaml_scan.proofs.laid.check_reach.Goals.{then-state-reach-via-then-state-reach, then-state-reach-via-else-state-reach+then-lost}
 
 pub stop_after-requires : goal.stop_after-requires
 stop_after-requires g c =

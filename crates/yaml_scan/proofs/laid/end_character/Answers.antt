@@ -6,7 +6,7 @@ use Rattle.yaml_scan.specs.inside.Scanner.{scanner_of}
 use Rattle.yaml_scan.proofs.RunningStep.StepMoves.{cut_all, steps_all}
 use Rattle.yaml_scan.proofs.RunningStep.StepHanded.{alone_handed, done_there, few_made, few_there, known_after}
 use Rattle.yaml_scan.specs.inside.Handed.{group_with}
-use Rattle.yaml_scan.proofs.layout.end_character.Goals as goal
+use Rattle.yaml_scan.proofs.laid.end_character.Goals as goal
 
 pub lay_alone-ends-requires : goal.lay_alone-ends-requires
 lay_alone-ends-requires g c = λ κs w. (search rules, (c.args.text.now, lexeme_of c.args.lexeme, ((refl, refl), (rw c.in-Ok.ensures.0 c.in-Ok.ensures.1))))

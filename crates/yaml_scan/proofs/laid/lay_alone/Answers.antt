@@ -4,7 +4,7 @@ use Rattle.yaml_scan.specs.inside.Scanner.{scanner_of}
 use Rattle.yaml_scan.specs.inside.Handed.{group_with, read_to}
 use Rattle.yaml_scan.proofs.RunningStep.StepHanded.{far_there, says_there, words_there}
 use Rattle.yaml_scan.proofs.RunningStep.StepTests.{can_put}
-use Rattle.yaml_scan.proofs.layout.lay_alone.Goals as goal
+use Rattle.yaml_scan.proofs.laid.lay_alone.Goals as goal
 
 pub lay_lexeme-ends-requires : goal.lay_lexeme-ends-requires
 lay_lexeme-ends-requires g c = let r = c.requires.1 in ((r.0, r.1, (r.2.0, can_put g.before (scanner_of r.0 c.args.state.now) c.args.met r.1 r.2.1)), (r.0, r.2.1.can.room))

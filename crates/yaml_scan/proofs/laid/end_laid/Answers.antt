@@ -3,7 +3,7 @@ use Rattle.yaml_scan.specs.inside.Scanner.{scanner_of}
 use Rattle.yaml_scan.specs.inside.Handed.{group_with}
 use Rattle.yaml_scan.proofs.RunningStep.StepHanded.{few_made, laid_few}
 use Rattle.yaml_scan.proofs.RunningStep.StepMoves.{cut_all, steps_all}
-use Rattle.yaml_scan.proofs.layout.end_laid.Goals as goal
+use Rattle.yaml_scan.proofs.laid.end_laid.Goals as goal
 
 pub overflow_add-state : goal.overflow_add-state
 overflow_add-state g c =
