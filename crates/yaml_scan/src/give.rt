@@ -29,7 +29,7 @@ ghost use Rattle.yaml_scan.specs.CallMarks.{AllIsCounted};
 ghost use Rattle.yaml_scan.specs.ParserCalls.{IsRefusedAtStart};
 
 use crate::groups::{group_t, lead_t, lead_token};
-use crate::keys::KEY_LIMIT;
+use crate::candidate::KEY_LIMIT;
 use crate::parser::{begin, new_state, start, take_head, yaml_parser_t, yaml_scan_next};
 use crate::state::state_t;
 use crate::session::is_last;

@@ -21,9 +21,9 @@ ghost use Rattle.yaml_scan.specs.declared.groups.group_t.{group_t};
 ghost use Rattle.yaml_scan.specs.inside.TextReads.{IsRead};
 
 use crate::allowed::is_allowed_after;
+use crate::candidate::{completed_by, is_lost};
 use crate::follower::{follower_of, lay_followed};
 use crate::groups::{block_t, group_t};
-use crate::keys::{completed_by, is_lost};
 use crate::kind::is_stream_end;
 use crate::levels::close_levels;
 use crate::met::met_t;

@@ -13,7 +13,7 @@ ghost use Rattle.yaml_scan.specs.inside.Opened.{is_new, opened};
 ghost use Rattle.yaml_scan.specs.inside.Queue.{ends_at, closing, completed_in, opened_by, start_of, Fitting, KeepsRest};
 ghost use Rattle.yaml_scan.specs.inside.Slots.{is_level};
 
-use crate::depth::candidate_t;
+use crate::candidate::candidate_t;
 use crate::groups::{block_t, queue_t};
 use crate::levels::{is_new_level, open_block, open_level};
 use crate::met::met_t;

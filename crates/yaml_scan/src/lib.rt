@@ -3,12 +3,11 @@
 
 mod allowed;
 mod calls;
-mod depth;
+mod candidate;
 mod follower;
 mod give;
 mod groups;
 mod kept;
-mod keys;
 mod kind;
 mod laid;
 pub mod laws;
@@ -23,6 +22,7 @@ mod settled;
 mod sink;
 #[cfg(test)]
 mod slot_tests;
+mod slots;
 mod source;
 mod state;
 mod step;

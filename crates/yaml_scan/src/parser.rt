@@ -30,9 +30,9 @@ ghost use Rattle.yaml_scan.specs.All.{ReadsAll};
 ghost use Rattle.yaml_scan.specs.Scanned.{Scanned};
 ghost use Rattle.yaml_scan.specs.Session.Answer.{TOKEN, FAULT};
 
-use crate::depth::slots_t;
+use crate::slots::slots_t;
 use crate::groups::queue_t;
-use crate::keys::KEY_LIMIT;
+use crate::candidate::KEY_LIMIT;
 use crate::layout::layout_t;
 use crate::near::{near_of, near_start};
 use crate::state::state_t;

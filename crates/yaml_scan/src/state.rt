@@ -8,12 +8,12 @@ ghost use Rattle.yaml_scan.specs.inside.Scanner.{scanner_of};
 ghost use Rattle.yaml_scan.specs.inside.Scanning.{IsNewHeld, cleared_in, met_in, refused_in};
 ghost use Rattle.yaml_scan.specs.inside.Slots.{is_level, root_of, slot_after};
 
-use crate::depth::{candidate_t, slots_t};
-use crate::keys::{change_slot, completed_by, needed_at, root_at};
+use crate::candidate::{candidate_t, change_slot, completed_by, needed_at};
 use crate::kind::{is_candidate_kind, is_colon, problem, start_after};
 use crate::layout::layout_t;
 use crate::levels::{is_level, level_at};
 use crate::met::met_t;
+use crate::slots::{root_at, slots_t};
 use std::alloc::Global;
 use yaml_lexeme::{yaml_context_t, yaml_lexeme_kind_t};
 use yaml_text::{yaml_fault_t, yaml_mark_t};

@@ -18,9 +18,9 @@ ghost use Rattle.yaml_scan.specs.inside.Scanning.{CanRead, CanStep, Comes, Ends,
 ghost use Rattle.yaml_scan.specs.inside.Scanning.{Refuses, allowed_in, cleared_in, refused_in};
 
 use crate::allowed::is_key_allowed;
-use crate::depth::candidate_t;
-use crate::keys::{lost_at, root};
+use crate::candidate::{candidate_t, lost_at};
 use crate::kind::start_after;
+use crate::slots::root;
 use crate::state::state_t;
 use std::alloc::AllocError;
 use yaml_lexeme::{yaml_lexeme_fault, yaml_lexeme_kind_t, yaml_refusal_t};

@@ -9,7 +9,7 @@ use Rattle.yaml_text.specs.declared.fault.yaml_fault_t.{yaml_fault_t}
 use Rattle.yaml_text.specs.Fault.{Fault, memory_fault, zero_mark, fault_of}
 use Rattle.yaml_scan.specs.Course.{Course, course}
 use Rattle.yaml_scan.specs.inside.Scanner.{Scanner, scanner_of}
-use Rattle.yaml_scan.specs.declared.depth.slots_t.{slots_t}
+use Rattle.yaml_scan.specs.declared.slots.slots_t.{slots_t}
 use Rattle.yaml_scan.specs.declared.layout.layout_t.{layout_t}
 use Rattle.yaml_scan.specs.declared.parser.yaml_parser_t.TheInside.{Inside}
 use Rattle.yaml_text.specs.Token.{token_of}

@@ -26,7 +26,7 @@ use Rattle.yaml_scan.specs.declared.stop.stop_t.{stop_t}
 use Rattle.yaml_scan.specs.declared.groups.group_t.{group_t}
 use Rattle.yaml_scan.specs.declared.met.met_t.{met_t}
 use Rattle.yaml_scan.specs.inside.Scanner.{Scanner}
-use Rattle.yaml_scan.specs.declared.depth.slots_t.{slots_t}
+use Rattle.yaml_scan.specs.declared.slots.slots_t.{slots_t}
 use Rattle.yaml_scan.specs.Kind.{Kind, is_candidate_kind, is_flow_start}
 use Rattle.yaml_scan.specs.Source.{Source, Offence}
 use Rattle.yaml_scan.specs.SourceOf.{source_of}

@@ -2,7 +2,7 @@ use Rattle.std.proofs.Common.{◌≡◌, ◌∷◌, [], length, Some, None, ap, 
 use Rattle.std.specs.Prelude.{slice_get}
 use Rattle.std.proofs.lemmas.Option.{slice_get_read, slice_get_past}
 use Rattle.yaml_scan.proofs.RunningQueue.EmptySlots.{lowest_there, lowest_after}
-use Rattle.yaml_scan.proofs.keys.lowest.Goals as goal
+use Rattle.yaml_scan.proofs.slots.lowest.Goals as goal
 
 pub returns-in-Some : goal.returns-in-Some
 returns-in-Some c = let k = c.in-Some.ensures.lookup in let hs = c.args.outer.now in

@@ -2,7 +2,7 @@ use Rattle.std.proofs.Common.{◌≡◌, ℕ, ◌-◌, map, length, vec_len, Som
 use Rattle.std.specs.Prelude.{slice_get}
 use Rattle.std.specs.Vec.{vec_capacity}
 use Rattle.yaml_scan.specs.inside.Slots.{Held, still_held, AreEmptyBelow}
-use Rattle.yaml_scan.proofs.keys.give_up_stale.Given as goal
+use Rattle.yaml_scan.proofs.slots.give_up_stale.Given as goal
 
 abbrev pub invariant-loop-empty : goal.invariant-loop-empty
 invariant-loop-empty l = record {

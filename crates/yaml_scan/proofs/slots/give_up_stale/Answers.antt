@@ -3,7 +3,7 @@ use Rattle.std.specs.Prelude.{slice_get, is_some}
 use Rattle.std.proofs.lemmas.Option.{slice_get_read}
 use Rattle.yaml_scan.specs.inside.Slots.{AreEmptyBelow}
 use Rattle.yaml_scan.proofs.RunningQueue.EmptySlots.{below_empty, empty_all, none_at, set_swept, set_empty, set_held, swept_to, swept_all}
-use Rattle.yaml_scan.proofs.keys.give_up_stale.Goals as goal
+use Rattle.yaml_scan.proofs.slots.give_up_stale.Goals as goal
 
 pub loop-empty-init : goal.loop-empty-init
 loop-empty-init c = record { long = refl; room = refl; swept = refl; below = subst (λ (n : ℕ). AreEmptyBelow n c.args.slots.now.items) (sym c.requires.empty) (below_empty c.args.slots.now.items); held = λ k h e. e }

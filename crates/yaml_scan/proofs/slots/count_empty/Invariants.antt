@@ -1,6 +1,6 @@
 use Rattle.std.proofs.Common.{◌-◌, length}
 use Rattle.yaml_scan.specs.inside.Slots.{AreEmptyBelow}
-use Rattle.yaml_scan.proofs.keys.count_empty.Given as goal
+use Rattle.yaml_scan.proofs.slots.count_empty.Given as goal
 
 abbrev pub invariant-loop-empty : goal.invariant-loop-empty
 invariant-loop-empty l = AreEmptyBelow l.empty l.slots

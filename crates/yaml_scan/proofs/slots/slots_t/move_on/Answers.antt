@@ -2,7 +2,7 @@ use Rattle.std.proofs.Common.{ℕ, List, subst, sym, ◌∙◌, rules}
 use Rattle.std.specs.Prelude.{Option}
 use Rattle.yaml_scan.specs.inside.Slots.{Held, AreEmptyBelow, nested_outer}
 use Rattle.yaml_scan.proofs.RunningQueue.EmptySlots.{nested_empty}
-use Rattle.yaml_scan.proofs.depth.slots_t.move_on.Goals as goal
+use Rattle.yaml_scan.proofs.slots.slots_t.move_on.Goals as goal
 
 pub count_empty-empty-requires : goal.count_empty-empty-requires
 count_empty-empty-requires c = let hs = c.give_up_stale-below.new.slots.items in

@@ -1,7 +1,7 @@
 use Rattle.std.proofs.Common.{Some, None, ap, sym, ◌∙◌, arith}
 use Rattle.std.proofs.lemmas.Option.{slice_get-get_or}
 use Rattle.yaml_scan.proofs.RunningQueue.EmptySlots.{held_at, none_at, empty_held, empty_more, empty_all}
-use Rattle.yaml_scan.proofs.keys.count_empty.Goals as goal
+use Rattle.yaml_scan.proofs.slots.count_empty.Goals as goal
 
 pub returns-then-is_some : goal.returns-then-is_some
 returns-then-is_some c = let q = held_at _ (sym c.is_some.ensures ∙ c.if-is_some.true) in

@@ -1,7 +1,7 @@
-//! Simple keys: the candidate of each flow depth, which a `:` may yet make a key (YAML 1.1, 10.2 Mapping Styles, simple
-//! keys). The slots, and what is kept of a candidate, are types of `depth`.
+//! Slots: the candidate of each flow depth. The depth is how many flow collections are open (YAML 1.1, chapter 10,
+//! Collection Styles).
 ghost use Rattle.std.specs.Prelude.{◌≡◌, ◌+◌, ◌-◌, ◌<◌, ◌&&◌, ◌++◌, ◌∷◌, [], Option, None, map, vec_len, false};
-ghost use Rattle.std.specs.Prelude.{if◌then◌else◌, length, nat_lt, true};
+ghost use Rattle.std.specs.Prelude.{if◌then◌else◌, length, nat_lt, true, ◌||◌};
 ghost use Rattle.yaml_scan.specs.Kind.{is_flow_start};
 ghost use Rattle.std.specs.Option.{is_some};
 ghost use Rattle.std.specs.Vec.{vec_capacity};
@@ -9,101 +9,34 @@ ghost use Rattle.yaml_scan.specs.inside.Slots.{is_live, still_held, lost_held, n
 ghost use Rattle.yaml_scan.specs.inside.Slots.{completed_held, nested_outer, nested_top, empty_slots, lowest};
 ghost use Rattle.yaml_scan.specs.inside.Slots.{AreEmptyBelow, AreNested};
 
-use crate::depth::{candidate_t, is_flow_start, nests, slots_t};
-use crate::kind::{is_candidate_kind, is_colon};
+use crate::candidate::{candidate_t, change_slot, give_up, held_step, still_held};
+use crate::kind::{is_flow_end, is_flow_start, nests};
 use crate::met::met_t;
 use yaml_lexeme::yaml_lexeme_kind_t;
 use yaml_text::yaml_mark_t;
 
-/// The key limit in bytes, if no other is set.
-pub(crate) const KEY_LIMIT: u32 = 1024;
-
-impl candidate_t {
-    /// Whether a candidate is live at a mark: on its line, and at most `limit` bytes from its start.
-    #[inline(always)]
-    pub(crate) fn is_live(self, limit: u64, mark: yaml_mark_t) -> bool
-        ensures { result ≡ is_live limit mark self }
-    {
-        mark.line == self.start.line && mark.index.saturating_sub(self.start.index) <= limit
-    }
-}
-
-/// A candidate, unless it is stale at a mark.
+/// The candidate of depth 0.
 #[inline(always)]
-pub(crate) fn still_held(
-    slot: Option<candidate_t>,
-    limit: u64,
-    mark: yaml_mark_t,
-) -> Option<candidate_t>
-    ensures { result ≡ still_held limit mark slot }
+pub(crate) fn root(outer: &[Option<candidate_t>], top: Option<candidate_t>) -> Option<candidate_t>
+    ensures { result ≡ root_of outer.now top }
 {
-    match slot {
-        None => None,
-        Some(held) => if held.is_live(limit, mark) {
-            Some(held)
-        } else {
-            None
-        },
+    match outer.first() {
+        None => top,
+        Some(held) => *held,
     }
 }
 
-/// A required candidate that is stale at a mark.
+/// The candidate of depth 0. `in_flow`: the present depth is above 0, so that there is an outer one.
 #[inline(always)]
-pub(crate) fn lost_at(
-    slot: Option<candidate_t>,
-    limit: u64,
-    mark: yaml_mark_t,
-) -> Option<candidate_t>
-    ensures { result ≡ lost_held limit mark slot }
-{
-    match slot {
-        None => None,
-        Some(held) => if held.required && !held.is_live(limit, mark) {
-            Some(held)
-        } else {
-            None
-        },
-    }
-}
-
-/// Whether a required candidate is stale at a mark. Inside a flow collection few are required, so that is asked first,
-/// and outside most are live.
-#[inline(always)]
-pub(crate) fn is_lost(
-    slot: Option<candidate_t>,
+pub(crate) fn root_at(
+    outer: &[Option<candidate_t>],
+    top: Option<candidate_t>,
     in_flow: bool,
-    limit: u64,
-    mark: yaml_mark_t,
-) -> bool
-    ensures { result ≡ is_some (lost_held limit mark slot) }
-{
-    match slot {
-        None => false,
-        Some(held) => if in_flow {
-            held.required && !held.is_live(limit, mark)
-        } else {
-            !held.is_live(limit, mark) && held.required
-        },
-    }
-}
-
-/// A required candidate that is live at a mark.
-#[inline(always)]
-pub(crate) fn needed_at(
-    slot: Option<candidate_t>,
-    limit: u64,
-    mark: yaml_mark_t,
 ) -> Option<candidate_t>
-    ensures { result ≡ needed limit mark slot }
+    requires { in_flow ≡ nat_lt 0 (length outer.now) }
+    ensures { result ≡ root_of outer.now top }
 {
-    match slot {
-        None => None,
-        Some(held) => if held.required && held.is_live(limit, mark) {
-            Some(held)
-        } else {
-            None
-        },
-    }
+    if in_flow { outer[0] } else { top }
 }
 
 /// Gives up the candidates that are stale at a mark, and counts the lowest slots that are then empty.
@@ -149,85 +82,6 @@ fn count_empty(slots: &[Option<candidate_t>], empty: usize) -> usize
     slots.len()
 }
 
-/// The candidate of depth 0.
-#[inline(always)]
-pub(crate) fn root(outer: &[Option<candidate_t>], top: Option<candidate_t>) -> Option<candidate_t>
-    ensures { result ≡ root_of outer.now top }
-{
-    match outer.first() {
-        None => top,
-        Some(held) => *held,
-    }
-}
-
-/// The candidate of depth 0. `in_flow`: the present depth is above 0, so that there is an outer one.
-#[inline(always)]
-pub(crate) fn root_at(
-    outer: &[Option<candidate_t>],
-    top: Option<candidate_t>,
-    in_flow: bool,
-) -> Option<candidate_t>
-    requires { in_flow ≡ nat_lt 0 (length outer.now) }
-    ensures { result ≡ root_of outer.now top }
-{
-    if in_flow { outer[0] } else { top }
-}
-
-/// Changes the slot of a depth after a lexeme was read at it.
-#[inline(always)]
-pub(crate) fn change_slot(
-    slot: &mut Option<candidate_t>,
-    kind: yaml_lexeme_kind_t,
-    allowed: bool,
-    new: candidate_t,
-)
-    ensures { slot.new ≡ slot_after kind allowed new slot.old }
-{
-    if !is_candidate_kind(kind) {
-        *slot = None;
-    } else if allowed {
-        *slot = Some(new);
-    }
-}
-
-/// The candidate that a lexeme completes, which starts at a mark.
-#[inline(always)]
-pub(crate) fn completed_by(
-    kind: yaml_lexeme_kind_t,
-    top: Option<candidate_t>,
-    limit: u64,
-    start: yaml_mark_t,
-) -> Option<candidate_t>
-    ensures { result ≡ completed_held kind limit start top }
-{
-    if is_colon(kind) {
-        still_held(top, limit, start)
-    } else {
-        None
-    }
-}
-
-/// Empties a slot, which is rare. A build clears the stack of what a function makes at the function's beginning, also
-/// where a rare branch alone makes it. So this branch is a function of its own.
-#[inline(always)]
-fn clear(slot: &mut Option<candidate_t>)
-    ensures { slot.new ≡ None }
-{
-    *slot = None;
-}
-
-/// Gives up a candidate that is stale at a mark.
-#[inline(always)]
-fn give_up(slot: &mut Option<candidate_t>, limit: u64, mark: yaml_mark_t)
-    ensures { slot.new ≡ still_held limit mark slot.old }
-{
-    if let Some(held) = *slot {
-        if !held.is_live(limit, mark) {
-            clear(slot);
-        }
-    }
-}
-
 /// The candidate of the least depth. So many of the lowest slots below the present depth are empty.
 #[inline(always)]
 fn lowest(
@@ -244,18 +98,52 @@ fn lowest(
     }
 }
 
-/// The number of a candidate's step, or 0.
-#[inline(always)]
-fn held_step(held: Option<candidate_t>) -> u64
-    ensures { result ≡ held_step held }
-{
-    match held {
-        None => 0,
-        Some(held) => held.step,
-    }
+/// The candidates of all depths.
+#[derive(Drop)]
+pub(crate) struct slots_t {
+    /// Those of the depths below the present one.
+    pub outer: Vec<Option<candidate_t>>,
+    /// How many of the lowest of these are empty: no slot below holds a candidate.
+    pub not_simple_keys: usize,
+    /// The candidate of the present depth.
+    pub top: Option<candidate_t>,
+    /// The step of the lowest candidate, or 0.
+    pub awaited: u64,
 }
 
 impl slots_t {
+    /// Enters a depth, for which there is room.
+    #[inline(always)]
+    fn enter(&mut self)
+        requires { vec_len self.old.outer < vec_capacity self.old.outer }
+        ensures outer { self.new.outer.items ≡ self.old.outer.items ++ self.old.top ∷ [] }
+        ensures top { self.new.top ≡ None }
+        ensures empty { self.new.not_simple_keys ≡ self.old.not_simple_keys }
+        ensures awaited { self.new.awaited ≡ self.old.awaited }
+    {
+        let held = std::mem::replace(&mut self.top, None);
+        self.outer.push_reserved(held);
+    }
+
+    /// Enters a depth at a flow start, for which there is room, and leaves one at a flow end.
+    #[inline(always)]
+    pub(crate) fn nest(&mut self, kind: yaml_lexeme_kind_t)
+        requires { is_flow_start kind ≡ true → vec_len self.old.outer < vec_capacity self.old.outer }
+        ensures outer { self.new.outer.items ≡ nested_outer kind self.old.outer.items self.old.top }
+        ensures top { self.new.top ≡ nested_top kind self.old.outer.items self.old.top }
+        ensures empty { self.new.not_simple_keys ≡ self.old.not_simple_keys }
+        ensures awaited { self.new.awaited ≡ self.old.awaited }
+    {
+        if is_flow_start(kind) {
+            self.enter();
+        } else if is_flow_end(kind) {
+            if let Some(held) = self.outer.last() {
+                self.top = *held;
+            }
+            self.outer.pop();
+        }
+    }
+
     /// Moves on after the lexeme of a step: gives up what is stale at a mark, and changes the depth. There is room for
     /// the one that it enters.
     #[inline(always)]
