@@ -27,10 +27,11 @@ ghost use Rattle.yaml_scan.specs.inside.Scanning.{IsFollowed};
 ghost use Rattle.yaml_scan.specs.inside.Slots.{Held, is_live};
 
 use crate::allowed::is_allowed_after;
-use crate::groups::{block_t, queue_t};
+use crate::groups::block_t;
 use crate::kind::{is_candidate_kind, is_colon, is_flow_start};
 use crate::levels::{close_levels, closing, is_new_level, open_level};
 use crate::met::met_t;
+use crate::queue::queue_t;
 use crate::slots::slots_t;
 use crate::source::{decider_at, decider_t};
 use crate::state::state_t;

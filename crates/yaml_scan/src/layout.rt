@@ -14,9 +14,10 @@ ghost use Rattle.yaml_scan.specs.inside.Queue.{ends_at, closing, completed_in, o
 ghost use Rattle.yaml_scan.specs.inside.Slots.{is_level};
 
 use crate::candidate::candidate_t;
-use crate::groups::{block_t, queue_t};
+use crate::groups::block_t;
 use crate::levels::{is_new_level, open_block, open_level};
 use crate::met::met_t;
+use crate::queue::queue_t;
 
 /// The open levels, the greatest last, and the queue.
 #[derive(Drop)]

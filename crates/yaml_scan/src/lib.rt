@@ -16,6 +16,7 @@ mod levels;
 mod met;
 mod near;
 mod parser;
+mod queue;
 mod room;
 mod session;
 mod settled;

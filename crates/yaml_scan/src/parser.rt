@@ -31,7 +31,7 @@ ghost use Rattle.yaml_scan.specs.Scanned.{Scanned};
 ghost use Rattle.yaml_scan.specs.Session.Answer.{TOKEN, FAULT};
 
 use crate::slots::slots_t;
-use crate::groups::queue_t;
+use crate::queue::queue_t;
 use crate::candidate::KEY_LIMIT;
 use crate::layout::layout_t;
 use crate::near::{near_of, near_start};

@@ -12,7 +12,7 @@ use Rattle.yaml_scan.specs.Course.{ended}
 use Rattle.yaml_scan.specs.declared.stop.stop_t.{stop_t}
 use Rattle.yaml_scan.specs.declared.stop.stop_t.TheVariants.{SINK}
 use Rattle.yaml_scan.specs.declared.groups.group_t.{group_t}
-use Rattle.yaml_scan.specs.declared.groups.queue_t.{queue_t}
+use Rattle.yaml_scan.specs.declared.queue.queue_t.{queue_t}
 use Rattle.yaml_scan.specs.inside.Scanner.{Scanner}
 use Rattle.yaml_scan.specs.Groups.{Token, offline}
 use Rattle.yaml_lexeme.specs.Counted.{IsMarkOf}

@@ -1,7 +1,7 @@
 use Rattle.std.proofs.Common.{◌≤◌, length, refl, arith}
 use Rattle.yaml_scan.specs.inside.Queue.{pending}
 use Rattle.yaml_scan.proofs.RunningQueue.QueueGroups.{token_taken}
-use Rattle.yaml_scan.proofs.groups.queue_t.take_bare.Goals as goal
+use Rattle.yaml_scan.proofs.queue.queue_t.take_bare.Goals as goal
 
 pub returns : goal.returns
 returns c = let g = rw c.unwrap.ensures at c.pop_front.ensures.items in

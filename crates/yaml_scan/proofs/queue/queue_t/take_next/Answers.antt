@@ -1,6 +1,6 @@
 use Rattle.yaml_text.specs.Token.{token_of}
 use Rattle.yaml_scan.proofs.RunningQueue.QueueGroups.{bare_taken}
-use Rattle.yaml_scan.proofs.groups.queue_t.take_next.Goals as goal
+use Rattle.yaml_scan.proofs.queue.queue_t.take_next.Goals as goal
 
 pub take_bare-requires-clause-some : goal.take_bare-requires-clause-some
 take_bare-requires-clause-some c = let b = c.take_lead-lead.ensures.none c.in-NOTHING.is in rw b.groups c.requires.some

@@ -1,6 +1,6 @@
 use Rattle.std.proofs.Common.{refl}
 use Rattle.yaml_scan.proofs.RunningQueue.QueueGroups.{head_taken}
-use Rattle.yaml_scan.proofs.groups.queue_t.take_lead.Goals as goal
+use Rattle.yaml_scan.proofs.queue.queue_t.take_lead.Goals as goal
 
 pub returns-clause-lead : goal.returns-clause-lead
 returns-clause-lead c = let g = rw c.unwrap-head.ensures at c.front_mut.ensures.value in let t = c.take_lead.ensures in

@@ -2,7 +2,7 @@ use Rattle.std.proofs.Common.{◌≡◌, ◌+◌, ◌-◌, ◌<◌, refl, arith,
 use Rattle.std.proofs.lemmas.Bool.{and_parts}
 use Rattle.yaml_text.specs.Token.{token_of}
 use Rattle.yaml_scan.proofs.RunningQueue.QueueGroups.{early_taken}
-use Rattle.yaml_scan.proofs.groups.queue_t.take_early.Goals as goal
+use Rattle.yaml_scan.proofs.queue.queue_t.take_early.Goals as goal
 
 pub returns : goal.returns
 returns c = let q = c.args.self.now in let l : 0 < q.early = ltb-true _ _ (and_parts _ _ c.requires).0 in
