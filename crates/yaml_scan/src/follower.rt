@@ -27,13 +27,13 @@ ghost use Rattle.yaml_scan.specs.inside.Scanning.{IsFollowed};
 ghost use Rattle.yaml_scan.specs.inside.Slots.{Held, is_live};
 
 use crate::allowed::is_allowed_after;
+use crate::decider::{decider_at, decider_t};
 use crate::groups::block_t;
 use crate::kind::{is_candidate_kind, is_colon, is_flow_start};
 use crate::levels::{close_levels, closing, is_new_level, open_level};
 use crate::met::met_t;
 use crate::queue::queue_t;
 use crate::slots::slots_t;
-use crate::source::{decider_at, decider_t};
 use crate::state::state_t;
 use yaml_lexeme::yaml_lexeme_kind_t;
 use yaml_text::{yaml_mark_t, yaml_text_t};

@@ -4,6 +4,7 @@
 mod allowed;
 mod calls;
 mod candidate;
+mod decider;
 mod follower;
 mod give;
 mod groups;

@@ -4,7 +4,7 @@ use Rattle.yaml_lexeme.specs.Lexeme.{Lexeme}
 use Rattle.yaml_lexeme.specs.LexemeOf.{lexeme_of}
 use Rattle.yaml_lexeme.specs.declared.lex.yaml_context_t.{yaml_context_t}
 use Rattle.yaml_scan.proofs.Texts.TextPlaces.{decider_there}
-use Rattle.yaml_scan.proofs.source.decider_at.Goals as goal
+use Rattle.yaml_scan.proofs.decider.decider_at.Goals as goal
 
 same_lexeme : (a b : Lexeme) (x : Result Lexeme Fault) → x ≡ Ok a → x ≡ Ok b → a ≡ b
 same_lexeme a b x e f = cc
