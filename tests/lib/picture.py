@@ -17,7 +17,7 @@ CALL = ("yaml_listing", "run", "run")
 LEFT_OUT = {("yaml_listing", "answer", "list_decoded"), ("yaml_listing", "answer", "list_called")}
 SHOWN = {
     "yaml_listing": "run answer line put",
-    "yaml_scan": "give parser step source layout groups sink",
+    "yaml_scan": "give parser step source laid groups sink",
     "yaml_lexeme": "gap kind lex plain place runs",
     "yaml_text": "decode ascii blocks",
 }

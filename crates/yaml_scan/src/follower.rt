@@ -28,8 +28,9 @@ ghost use Rattle.yaml_scan.specs.inside.Slots.{Held, is_live};
 
 use crate::allowed::is_allowed_after;
 use crate::decider::{decider_at, decider_t};
+use crate::depth::is_flow_start;
 use crate::groups::block_t;
-use crate::kind::{is_candidate_kind, is_colon, is_flow_start};
+use crate::kind::{is_candidate_kind, is_colon};
 use crate::levels::{close_levels, closing, is_new_level, open_level};
 use crate::met::met_t;
 use crate::queue::queue_t;
@@ -66,13 +67,7 @@ pub(crate) fn is_undecided(state: &state_t, sparing: bool, met: met_t, reach: ya
         && !is_flow_start(met.kind)
         && met.allowed
         && has_room_for_two(&state.layout.queue)
-        && (!sparing
-            || keeps_levels(
-                &state.layout.levels,
-                met.in_flow,
-                met.kind,
-                met.new.start,
-            ))
+        && (!sparing || keeps_levels(&state.layout.levels, met.in_flow, met.kind, met.new.start))
         && met.new.is_live(state.limit, reach)
 }
 

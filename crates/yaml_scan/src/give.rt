@@ -29,12 +29,12 @@ ghost use Rattle.yaml_scan.specs.CallMarks.{AllIsCounted};
 ghost use Rattle.yaml_scan.specs.ParserCalls.{IsRefusedAtStart};
 
 use crate::groups::{group_t, lead_t, lead_token};
-use crate::candidate::KEY_LIMIT;
+use crate::keys::KEY_LIMIT;
 use crate::parser::{begin, new_state, start, take_head, yaml_parser_t, yaml_scan_next};
-use crate::state::state_t;
 use crate::session::is_last;
 use crate::settled::is_settled;
 use crate::sink::{count_of, give, give_group, has_room_for, said_len, yaml_token_sink_t};
+use crate::state::state_t;
 use crate::step::step_to;
 use crate::stop::{fault_at, stop_t, stopped};
 use std::alloc::{AllocError, Global};

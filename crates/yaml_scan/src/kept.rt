@@ -22,9 +22,9 @@ ghost use Rattle.yaml_scan.specs.Session.Answer.{PEEKED};
 
 use crate::parser::{begin, yaml_parser_t};
 use crate::room::{give_while_room, show_next};
-use crate::state::state_t;
 use crate::session::session_t;
 use crate::sink::yaml_token_sink_t;
+use crate::state::state_t;
 use crate::stop::{fault_at, stop_t};
 use yaml_text::{
     yaml_encoding_t, yaml_fault_t, yaml_kept_text_t, yaml_mark_t, yaml_text_t, yaml_token_t,

@@ -1,8 +1,7 @@
 //! What the layout asks of a kind of lexeme.
-ghost use Rattle.std.specs.Prelude.{◌≡◌, ◌||◌, true, ◌+◌, ◌<◌, ◌^◌};
+ghost use Rattle.std.specs.Prelude.{◌≡◌, true, ◌+◌, ◌<◌, ◌^◌};
 ghost use Rattle.std.specs.Option.{option_copied};
-ghost use Rattle.yaml_scan.specs.Kind.{is_candidate_kind, is_flow_end, is_flow_start, is_value, is_stream_end};
-ghost use Rattle.yaml_scan.specs.Kind.{closes_all};
+ghost use Rattle.yaml_scan.specs.Kind.{is_candidate_kind, is_value, is_stream_end, closes_all};
 ghost use Rattle.yaml_scan.specs.Levels.{opens_level, stays};
 ghost use Rattle.yaml_scan.specs.Step.{end_of, problem_of, start_at};
 
@@ -29,34 +28,6 @@ pub(crate) fn is_colon(kind: yaml_lexeme_kind_t) -> bool
     ensures { result ≡ is_value kind }
 {
     matches!(kind, yaml_lexeme_kind_t::VALUE)
-}
-
-#[inline(always)]
-pub(crate) fn is_flow_start(kind: yaml_lexeme_kind_t) -> bool
-    ensures { result ≡ is_flow_start kind }
-{
-    matches!(
-        kind,
-        yaml_lexeme_kind_t::FLOW_SEQUENCE_START | yaml_lexeme_kind_t::FLOW_MAPPING_START
-    )
-}
-
-#[inline(always)]
-fn is_flow_end(kind: yaml_lexeme_kind_t) -> bool
-    ensures { result ≡ is_flow_end kind }
-{
-    matches!(
-        kind,
-        yaml_lexeme_kind_t::FLOW_SEQUENCE_END | yaml_lexeme_kind_t::FLOW_MAPPING_END
-    )
-}
-
-/// Whether a lexeme enters a depth or leaves one.
-#[inline(always)]
-pub(crate) fn nests(kind: yaml_lexeme_kind_t) -> bool
-    ensures { result ≡ (is_flow_start kind || is_flow_end kind) }
-{
-    is_flow_start(kind) || is_flow_end(kind)
 }
 
 pub(crate) fn is_stream_end(kind: yaml_lexeme_kind_t) -> bool

@@ -21,13 +21,16 @@ ghost use Rattle.yaml_scan.specs.declared.groups.group_t.{group_t};
 ghost use Rattle.yaml_scan.specs.inside.TextReads.{IsRead};
 
 use crate::allowed::is_allowed_after;
-use crate::candidate::{completed_by, is_lost};
 use crate::follower::{follower_of, lay_followed};
 use crate::groups::{block_t, group_t};
+use crate::keys::{completed_by, is_lost};
 use crate::kind::is_stream_end;
 use crate::levels::close_levels;
 use crate::met::met_t;
-use crate::sink::{hand_keyless, hand_on, hand_token, has_room_for_both, has_room_for_laid, no_sink_t, said_len, yaml_token_sink_t};
+use crate::sink::{
+    hand_keyless, hand_on, hand_token, has_room_for_both, has_room_for_laid, no_sink_t, said_len,
+    yaml_token_sink_t,
+};
 use crate::state::state_t;
 use crate::stop::{stop_after, stop_in_lexeme, stop_t, stopped};
 use yaml_lexeme::{yaml_lexeme_kind_t, yaml_lexeme_t, yaml_refusal_t};

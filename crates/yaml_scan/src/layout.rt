@@ -13,8 +13,8 @@ ghost use Rattle.yaml_scan.specs.inside.Opened.{is_new, opened};
 ghost use Rattle.yaml_scan.specs.inside.Queue.{ends_at, closing, completed_in, opened_by, start_of, Fitting, KeepsRest};
 ghost use Rattle.yaml_scan.specs.inside.Slots.{is_level};
 
-use crate::candidate::candidate_t;
 use crate::groups::block_t;
+use crate::keys::candidate_t;
 use crate::levels::{is_new_level, open_block, open_level};
 use crate::met::met_t;
 use crate::queue::queue_t;

@@ -3,12 +3,13 @@
 
 mod allowed;
 mod calls;
-mod candidate;
 mod decider;
+mod depth;
 mod follower;
 mod give;
 mod groups;
 mod kept;
+mod keys;
 mod kind;
 mod laid;
 pub mod laws;

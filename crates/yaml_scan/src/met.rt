@@ -1,6 +1,6 @@
 //! What a step has met before it reads its lexeme.
 
-use crate::candidate::candidate_t;
+use crate::keys::candidate_t;
 use yaml_lexeme::{yaml_context_t, yaml_lexeme_kind_t};
 
 /// What a step has met: what its lexeme is read and laid with.

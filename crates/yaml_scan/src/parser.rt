@@ -30,14 +30,14 @@ ghost use Rattle.yaml_scan.specs.All.{ReadsAll};
 ghost use Rattle.yaml_scan.specs.Scanned.{Scanned};
 ghost use Rattle.yaml_scan.specs.Session.Answer.{TOKEN, FAULT};
 
-use crate::slots::slots_t;
-use crate::queue::queue_t;
-use crate::candidate::KEY_LIMIT;
+use crate::keys::KEY_LIMIT;
 use crate::layout::layout_t;
 use crate::near::{near_of, near_start};
-use crate::state::state_t;
+use crate::queue::queue_t;
 use crate::session::{is_last, session_t};
 use crate::settled::settle_head;
+use crate::slots::slots_t;
+use crate::state::state_t;
 use crate::stop::{fault_at, stop_t};
 use std::alloc::Global;
 use std::collections::VecDeque;

@@ -15,10 +15,10 @@ ghost use Rattle.yaml_scan.specs.inside.Scanner.{scanner_of};
 ghost use Rattle.yaml_scan.specs.inside.Sent.{HasSentOrSettled};
 
 use crate::give::{give_next, send_on};
-use crate::state::state_t;
 use crate::session::session_t;
 use crate::settled::settle_head;
 use crate::sink::{said_len, yaml_token_sink_t};
+use crate::state::state_t;
 use crate::stop::stop_t;
 use yaml_text::{yaml_text_t, yaml_token_t};
 

@@ -9,8 +9,8 @@ ghost use Rattle.yaml_scan.specs.inside.Slots.{is_live, still_held, lost_held, n
 ghost use Rattle.yaml_scan.specs.inside.Slots.{completed_held, nested_outer, nested_top, empty_slots, lowest};
 ghost use Rattle.yaml_scan.specs.inside.Slots.{AreEmptyBelow, AreNested};
 
-use crate::candidate::{candidate_t, change_slot, give_up, held_step, still_held};
-use crate::kind::{is_flow_end, is_flow_start, nests};
+use crate::depth::{is_flow_end, is_flow_start, nests};
+use crate::keys::{candidate_t, change_slot, give_up, held_step, still_held};
 use crate::met::met_t;
 use yaml_lexeme::yaml_lexeme_kind_t;
 use yaml_text::yaml_mark_t;

@@ -17,10 +17,9 @@ ghost use Rattle.yaml_scan.specs.inside.TextReads.{IsRead};
 use crate::state::state_t;
 use std::alloc::Global;
 use yaml_lexeme::{
-    yaml_context_t, yaml_gap, yaml_lexeme_kind, yaml_lexeme_kind_t, yaml_lexeme_t,
-    yaml_read_block, yaml_read_character, yaml_read_lexeme, yaml_read_marker, yaml_read_name,
-    yaml_read_plain, yaml_read_quoted, yaml_read_stream_end, yaml_read_tag, yaml_refusal_t,
-    yaml_spot_t,
+    yaml_context_t, yaml_gap, yaml_lexeme_kind, yaml_lexeme_kind_t, yaml_lexeme_t, yaml_read_block,
+    yaml_read_character, yaml_read_lexeme, yaml_read_marker, yaml_read_name, yaml_read_plain,
+    yaml_read_quoted, yaml_read_stream_end, yaml_read_tag, yaml_refusal_t, yaml_spot_t,
 };
 use yaml_text::{yaml_mark_t, yaml_text_t};
 

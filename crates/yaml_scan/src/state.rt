@@ -8,7 +8,7 @@ ghost use Rattle.yaml_scan.specs.inside.Scanner.{scanner_of};
 ghost use Rattle.yaml_scan.specs.inside.Scanning.{IsNewHeld, cleared_in, met_in, refused_in};
 ghost use Rattle.yaml_scan.specs.inside.Slots.{is_level, root_of, slot_after};
 
-use crate::candidate::{candidate_t, change_slot, completed_by, needed_at};
+use crate::keys::{candidate_t, change_slot, completed_by, needed_at};
 use crate::kind::{is_candidate_kind, is_colon, problem, start_after};
 use crate::layout::layout_t;
 use crate::levels::{is_level, level_at};

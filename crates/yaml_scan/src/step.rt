@@ -14,13 +14,17 @@ ghost use Rattle.yaml_scan.specs.inside.Stop.{fault_at};
 ghost use Rattle.yaml_scan.specs.inside.Handed.{StepsTo};
 
 use crate::allowed::is_key_allowed;
-use crate::candidate::is_lost;
-use crate::kind::is_flow_start;
+use crate::depth::is_flow_start;
+use crate::keys::is_lost;
 use crate::laid::{end_character, end_laid, end_queued, lay_read};
 use crate::met::met_t;
 use crate::sink::{no_sink_t, yaml_token_sink_t};
 use crate::slots::root_at;
-use crate::source::{block_reader_t, directive_reader_t, gap_end, kind_at, marker_kind, name_reader_t, plain_reader_t, quoted_reader_t, read_character, read_lexeme, read_marker, read_stream_end, reader_t, tag_reader_t};
+use crate::source::{
+    block_reader_t, directive_reader_t, gap_end, kind_at, marker_kind, name_reader_t,
+    plain_reader_t, quoted_reader_t, read_character, read_lexeme, read_marker, read_stream_end,
+    reader_t, tag_reader_t,
+};
 use crate::state::state_t;
 use crate::stop::{stop_at_kind, stop_at_start, stop_in_gap, stop_t, stop_without_kind, stopped};
 use yaml_lexeme::yaml_lexeme_kind_t;

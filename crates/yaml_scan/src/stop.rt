@@ -18,7 +18,7 @@ ghost use Rattle.yaml_scan.specs.inside.Scanning.{CanRead, CanStep, Comes, Ends,
 ghost use Rattle.yaml_scan.specs.inside.Scanning.{Refuses, allowed_in, cleared_in, refused_in};
 
 use crate::allowed::is_key_allowed;
-use crate::candidate::{candidate_t, lost_at};
+use crate::keys::{candidate_t, lost_at};
 use crate::kind::start_after;
 use crate::slots::root;
 use crate::state::state_t;

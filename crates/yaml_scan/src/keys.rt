@@ -1,4 +1,4 @@
-//! Candidates for a simple key, which a `:` may yet make one (YAML 1.1, 10.2 Mapping Styles, simple keys).
+//! Simple keys: the candidates for one, which a `:` may yet make a key (YAML 1.1, 10.2 Mapping Styles, simple keys).
 ghost use Rattle.std.specs.Prelude.{◌≡◌, ◌+◌, ◌-◌, ◌<◌, ◌&&◌, ◌++◌, ◌∷◌, [], Option, None, map, vec_len, false};
 ghost use Rattle.std.specs.Prelude.{if◌then◌else◌, length, nat_lt, true, ◌||◌};
 ghost use Rattle.yaml_scan.specs.Kind.{is_flow_start};
