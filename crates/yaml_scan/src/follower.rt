@@ -34,6 +34,7 @@ use crate::kind::{is_candidate_kind, is_colon};
 use crate::levels::{close_levels, closing, is_new_level, open_level};
 use crate::met::met_t;
 use crate::queue::queue_t;
+use crate::read::read_t;
 use crate::slots::slots_t;
 use crate::state::state_t;
 use yaml_lexeme::yaml_lexeme_kind_t;
@@ -60,15 +61,16 @@ fn keeps_levels(levels: &[u64], in_flow: bool, kind: yaml_lexeme_kind_t, start: 
 /// and no other token is before it. If `sparing`, its step closes no level, so that its token comes next. There is room
 /// for both.
 #[inline(always)]
-pub(crate) fn is_undecided(state: &state_t, sparing: bool, met: met_t, reach: yaml_mark_t) -> bool
-    ensures { (text : Text) → result ≡ true → IsUndecided (scanner_of text state.now) sparing met reach }
+pub(crate) fn is_undecided(state: &state_t, sparing: bool, read: read_t) -> bool
+    ensures { (text : Text) → result ≡ true → IsUndecided (scanner_of text state.now) sparing read.met read.reach }
 {
+    let met = read.met;
     is_candidate_kind(met.kind)
         && !is_flow_start(met.kind)
         && met.allowed
         && has_room_for_two(&state.layout.queue)
         && (!sparing || keeps_levels(&state.layout.levels, met.in_flow, met.kind, met.new.start))
-        && met.new.is_live(state.limit, reach)
+        && met.new.is_live(state.limit, read.reach)
 }
 
 /// The start of a block mapping, or none.
@@ -134,12 +136,12 @@ fn is_awaited_with_room(state: &state_t) -> bool
 /// Whether the slot of its depth is known after the lexeme of a step, which was read up to a mark: if a key is allowed,
 /// the lexeme is the candidate, and live, and if not, there is none.
 #[inline(always)]
-fn has_known_slot(state: &state_t, met: met_t, reach: yaml_mark_t) -> bool
-    ensures key { result ≡ true → met.allowed ≡ true → is_live state.now.limit reach met.new ≡ true }
-    ensures none { result ≡ true → met.allowed ≡ false → state.now.slots.top ≡ None }
+fn has_known_slot(state: &state_t, read: read_t) -> bool
+    ensures key { result ≡ true → read.met.allowed ≡ true → is_live state.now.limit read.reach read.met.new ≡ true }
+    ensures none { result ≡ true → read.met.allowed ≡ false → state.now.slots.top ≡ None }
 {
-    if met.allowed {
-        met.new.is_live(state.limit, reach)
+    if read.met.allowed {
+        read.met.new.is_live(state.limit, read.reach)
     } else {
         state.slots.top.is_none()
     }
@@ -163,16 +165,16 @@ pub(crate) fn is_outer_live(slots: &slots_t, limit: u64, mark: yaml_mark_t) -> b
 /// Whether the lexeme of a step, which was read up to a mark, is in flow and has to wait until an earlier candidate is
 /// decided. There is room for it and for one group more, and the slot of its depth is known.
 #[inline(always)]
-pub(crate) fn waits(state: &state_t, met: met_t, reach: yaml_mark_t) -> bool
+pub(crate) fn waits(state: &state_t, read: read_t) -> bool
     requires { state.now.layout.queue.done + 1 < 2 ^ 64 }
-    ensures { (text : Text) → result ≡ true → Waits (scanner_of text state.now) met reach }
+    ensures { (text : Text) → result ≡ true → Waits (scanner_of text state.now) read.met read.reach }
 {
     state.slots.awaited > 0
-        && met.in_flow
-        && is_candidate_kind(met.kind)
-        && !is_flow_start(met.kind)
+        && read.met.in_flow
+        && is_candidate_kind(read.met.kind)
+        && !is_flow_start(read.met.kind)
         && is_awaited_with_room(state)
-        && has_known_slot(state, met, reach)
+        && has_known_slot(state, read)
 }
 
 /// What comes right after a lexeme.
@@ -187,13 +189,14 @@ pub(crate) struct follower_t {
 /// Whether the next token needs what comes right after the lexeme of a step, which was read up to a mark: `None` if it
 /// may not, and else whether both have to wait until a candidate of an outer depth is decided.
 #[inline(always)]
-fn followed_by(state: &state_t, sparing: bool, met: met_t, reach: yaml_mark_t) -> Option<bool>
+fn followed_by(state: &state_t, sparing: bool, read: read_t) -> Option<bool>
     requires { state.now.layout.queue.done + 1 < 2 ^ 64 }
-    ensures { (text : Text) → IfSome result (λ w. IsFollowed (scanner_of text state.now) sparing met reach w) }
+    ensures { (text : Text) → IfSome result (λ w. IsFollowed (scanner_of text state.now) sparing read.met read.reach
+        w) }
 {
-    if is_undecided(state, sparing, met, reach) {
+    if is_undecided(state, sparing, read) {
         Some(false)
-    } else if waits(state, met, reach) {
+    } else if waits(state, read) {
         Some(true)
     } else {
         None
@@ -218,16 +221,15 @@ pub(crate) fn follower_of(
     text: &yaml_text_t,
     state: &state_t,
     sparing: bool,
-    met: met_t,
-    reach: yaml_mark_t,
+    read: read_t,
 ) -> Option<follower_t>
     requires done { state.now.layout.queue.done + 1 < 2 ^ 64 }
-    requires place { is_candidate_kind met.kind ≡ true → (p : ℕ) × IsMarkOf text.now.chars reach p }
-    ensures { IfSome result (λ f. IsFollower (scanner_of text.now state.now) sparing met reach f.waits f.decider.kind
-        (lexeme_of f.decider.lexeme)) }
+    requires place { is_candidate_kind read.met.kind ≡ true → (p : ℕ) × IsMarkOf text.now.chars read.reach p }
+    ensures { IfSome result (λ f. IsFollower (scanner_of text.now state.now) sparing read.met read.reach f.waits
+        f.decider.kind (lexeme_of f.decider.lexeme)) }
 {
-    let waits = followed_by(state, sparing, met, reach)?;
-    let decider = decider_at(text, reach, met.in_flow)?;
+    let waits = followed_by(state, sparing, read)?;
+    let decider = decider_at(text, read.reach, read.met.in_flow)?;
     if may_follow(state, waits, decider.lexeme.reach) {
         Some(follower_t { decider, waits })
     } else {
@@ -274,21 +276,21 @@ fn lay_levels(levels: &mut Vec<u64>, met: met_t, key: bool, waits: bool) -> (usi
 #[inline(always)]
 fn lay_both<const WAITS: bool>(
     state: &mut state_t,
-    met: met_t,
-    at: yaml_mark_t,
+    read: read_t,
     decider: &decider_t,
 ) -> (usize, block_t, bool)
     ghost before: { List Laid }
-    requires { (text : Text) × (x : Lexeme) × ((x.reach ≡ at) × CanLayAll before (scanner_of text state.old) met x)
+    requires { (text : Text) × (x : Lexeme) × ((x.reach ≡ read.reach)
+        × CanLayAll before (scanner_of text state.old) read.met x)
         × ((sparing : Bool)
-        × IsFollower (scanner_of text state.old) sparing met at WAITS decider.now.kind
+        × IsFollower (scanner_of text state.old) sparing read.met read.reach WAITS decider.now.kind
         (lexeme_of decider.now.lexeme)) }
     ensures laid { (text : Text) (sparing : Bool) (d : TokenData) (b e : yaml_mark_t) (passed : Bool)
         (t z : code_token_t)
-        → CanLayAll before (scanner_of text state.old) met (read_to d b e at passed)
-        → IsFollower (scanner_of text state.old) sparing met at WAITS decider.now.kind
-        (lexeme_of decider.now.lexeme) → IsTokenOf t d met.new.start e
-        → IsTokenOf z (lexeme_of decider.now.lexeme).token_data at
+        → CanLayAll before (scanner_of text state.old) read.met (read_to d b e read.reach passed)
+        → IsFollower (scanner_of text state.old) sparing read.met read.reach WAITS decider.now.kind
+        (lexeme_of decider.now.lexeme) → IsTokenOf t d read.met.new.start e
+        → IsTokenOf z (lexeme_of decider.now.lexeme).token_data read.reach
         (lexeme_of decider.now.lexeme).end_mark
         → LaysTwo (WAITS || sparing) before (scanner_of text state.old) (scanner_of text state.new)
         (groups_in (scanner_of text state.new)
@@ -298,10 +300,10 @@ fn lay_both<const WAITS: bool>(
     ensures few { result.0 ≤ length state.old.layout.levels.items }
 {
     let kind = decider.kind;
-    let key = is_key(met, WAITS, kind);
-    let (ends, opens) = lay_levels(&mut state.layout.levels, met, key, WAITS);
+    let key = is_key(read.met, WAITS, kind);
+    let (ends, opens) = lay_levels(&mut state.layout.levels, read.met, key, WAITS);
     state.slots.drop_candidate(kind, WAITS);
-    state.allowed = is_allowed_after(kind, met.in_flow, !key, false);
+    state.allowed = is_allowed_after(kind, read.met.in_flow, !key, false);
     state.reach = decider.lexeme.reach;
     (ends, opens, key)
 }
@@ -311,21 +313,21 @@ fn lay_both<const WAITS: bool>(
 #[inline(always)]
 pub(crate) fn lay_followed(
     state: &mut state_t,
-    met: met_t,
-    at: yaml_mark_t,
+    read: read_t,
     follower: &follower_t,
 ) -> (usize, block_t, bool)
     ghost before: { List Laid }
-    requires { (text : Text) × (x : Lexeme) × ((x.reach ≡ at) × CanLayAll before (scanner_of text state.old) met x)
+    requires { (text : Text) × (x : Lexeme) × ((x.reach ≡ read.reach)
+        × CanLayAll before (scanner_of text state.old) read.met x)
         × ((sparing : Bool)
-        × IsFollower (scanner_of text state.old) sparing met at follower.now.waits follower.now.decider.kind
-        (lexeme_of follower.now.decider.lexeme)) }
+        × IsFollower (scanner_of text state.old) sparing read.met read.reach follower.now.waits
+        follower.now.decider.kind (lexeme_of follower.now.decider.lexeme)) }
     ensures laid { (text : Text) (sparing : Bool) (d : TokenData) (b e : yaml_mark_t) (passed : Bool)
         (t z : code_token_t)
-        → CanLayAll before (scanner_of text state.old) met (read_to d b e at passed)
-        → IsFollower (scanner_of text state.old) sparing met at follower.now.waits follower.now.decider.kind
-        (lexeme_of follower.now.decider.lexeme) → IsTokenOf t d met.new.start e
-        → IsTokenOf z (lexeme_of follower.now.decider.lexeme).token_data at
+        → CanLayAll before (scanner_of text state.old) read.met (read_to d b e read.reach passed)
+        → IsFollower (scanner_of text state.old) sparing read.met read.reach follower.now.waits
+        follower.now.decider.kind (lexeme_of follower.now.decider.lexeme) → IsTokenOf t d read.met.new.start e
+        → IsTokenOf z (lexeme_of follower.now.decider.lexeme).token_data read.reach
         (lexeme_of follower.now.decider.lexeme).end_mark
         → LaysTwo (follower.now.waits || sparing) before (scanner_of text state.old) (scanner_of text state.new)
         (groups_in (scanner_of text state.new)
@@ -336,8 +338,8 @@ pub(crate) fn lay_followed(
 {
     // a copy for each, so that what differs is asked once
     if follower.waits {
-        lay_both::<true>(state, met, at, &follower.decider)
+        lay_both::<true>(state, read, &follower.decider)
     } else {
-        lay_both::<false>(state, met, at, &follower.decider)
+        lay_both::<false>(state, read, &follower.decider)
     }
 }

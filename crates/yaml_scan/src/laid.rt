@@ -27,6 +27,7 @@ use crate::keys::{completed_by, is_lost};
 use crate::kind::is_stream_end;
 use crate::levels::close_levels;
 use crate::met::met_t;
+use crate::read::read_t;
 use crate::sink::{
     hand_keyless, hand_on, hand_token, has_room_for_both, has_room_for_laid, no_sink_t, said_len,
     yaml_token_sink_t,
@@ -56,36 +57,35 @@ pub(crate) fn token_of(start: yaml_mark_t, lexeme: yaml_lexeme_t) -> yaml_token_
 /// completes. Returns how many levels end at its token, and what it opens. Its group then goes into the queue or is
 /// handed out. There is room, and no candidate is lost.
 #[inline(always)]
-pub(crate) fn lay_lexeme(
-    state: &mut state_t,
-    met: met_t,
-    reach: yaml_mark_t,
-    passed_break: bool,
-) -> (usize, block_t)
+pub(crate) fn lay_lexeme(state: &mut state_t, read: read_t) -> (usize, block_t)
     ghost before: { List Laid }
-    requires can { (text : Text) × (x : Lexeme) × (IsReadTo x reach passed_break × CanPut before
+    requires can { (text : Text) × (x : Lexeme) × (IsReadTo x read.reach read.passed_break × CanPut before
         (scanner_of text state.old) (groups_in (scanner_of text state.old))
-        (met_in (scanner_of text state.old) met) met.in_flow met.new x) }
-    requires room { (text : Text) × HasRoom (scanner_of text state.old) met.in_flow met.kind }
+        (met_in (scanner_of text state.old) read.met) read.met.in_flow read.met.new x) }
+    requires room { (text : Text) × HasRoom (scanner_of text state.old) read.met.in_flow read.met.kind }
     ensures laid { (text : Text) (d : TokenData) (b e : yaml_mark_t) (t : code_token_t)
         → CanPut before (scanner_of text state.old) (groups_in (scanner_of text state.old))
-        (met_in (scanner_of text state.old) met) met.in_flow met.new
-        (read_to d b e reach passed_break) → IsTokenOf t d met.new.start e
-        → IsLaidAs before (scanner_of text state.old) met.kind (scanner_of text state.new)
+        (met_in (scanner_of text state.old) read.met) read.met.in_flow read.met.new
+        (read_to d b e read.reach read.passed_break) → IsTokenOf t d read.met.new.start e
+        → IsLaidAs before (scanner_of text state.old) read.met.kind (scanner_of text state.new)
         (groups_in (scanner_of text state.new) ++ group_with result.0 result.1 false t ∷ []) }
-    ensures reach { state.new.reach ≡ reach }
+    ensures reach { state.new.reach ≡ read.reach }
     ensures room { length state.new.layout.queue.groups.items < deque_capacity state.new.layout.queue.groups }
 {
-    let kind = met.kind;
+    let met = read.met;
     let gap_end = state.gap_end;
-    let start = met.new.start;
     let closed = close_levels(&mut state.layout.levels, met, gap_end);
-    let completed = completed_by(kind, state.slots.top, state.limit, start);
-    state.slots.keep_candidates(met, state.limit, reach);
+    let completed = completed_by(met.kind, state.slots.top, state.limit, met.new.start);
+    state.slots.keep_candidates(met, state.limit, read.reach);
     let opens = state.layout.put_key(met, completed);
     state.layout.queue.keep_early(closed.early, gap_end);
-    state.allowed = is_allowed_after(kind, met.in_flow, completed.is_none(), passed_break);
-    state.reach = reach;
+    state.allowed = is_allowed_after(
+        met.kind,
+        met.in_flow,
+        completed.is_none(),
+        read.passed_break,
+    );
+    state.reach = read.reach;
     (closed.ends, opens)
 }
 
@@ -105,54 +105,39 @@ pub(crate) struct laid_t {
 }
 
 /// Whether the group of a lexeme of a kind that was laid has to wait: the stream end always does, and any other if
-/// groups before it do, if a candidate may yet become a key, or if the sink has no room for it. It hands out so many
-/// block ends and opens that, and its texts have so many bytes.
+/// groups before it do, or if a candidate may yet become a key.
 #[inline(always)]
-fn has_to_wait<S: yaml_token_sink_t>(
-    state: &state_t,
-    sink: &S,
-    kind: yaml_lexeme_kind_t,
-    ends: usize,
-    opens: block_t,
-    texts: u128,
-) -> bool
+fn has_to_wait(state: &state_t, kind: yaml_lexeme_kind_t) -> bool
     ensures last { result ≡ false → is_stream_end kind ≡ false }
     ensures awaited { result ≡ false → state.now.slots.awaited ≡ 0 }
     ensures lone { result ≡ false → state.now.layout.queue.groups.items ≡ [] }
-    ensures room { result ≡ false → S.within sink.now → (group : group_t) (after : S) → group.ends ≡ ends
-        → group.opens ≡ opens → group.key ≡ false → said_len (token_of group.token).token_data ≤ texts
-        → S.took sink.now (group_tokens group) after → S.within after }
 {
-    is_stream_end(kind)
-        || state.slots.awaited > 0
-        || !state.layout.queue.groups.is_empty()
-        || !has_room_for_laid(sink, ends, opens, texts)
+    is_stream_end(kind) || state.slots.awaited > 0 || !state.layout.queue.groups.is_empty()
 }
 
-/// Lays the lexeme of a step, which was read to a mark, and whose texts have so many bytes. Returns how many block ends
-/// its group hands out, what that opens, and whether it has to wait.
+/// Lays the lexeme of a step, which was read. Returns how many block ends its group hands out, what that opens, and
+/// whether it has to wait, since others do or the sink has no room for it.
 #[inline(always)]
 fn lay_alone<S: yaml_token_sink_t>(
     state: &mut state_t,
     sink: &S,
-    met: met_t,
-    reach: yaml_mark_t,
-    passed_break: bool,
-    texts: u128,
+    read: read_t,
 ) -> (usize, block_t, bool)
     ghost before: { List Laid }
-    requires { (text : Text) × (x : Lexeme) × (IsReadTo x reach passed_break
-        × CanLayAll before (scanner_of text state.old) met x) }
+    requires { (text : Text) × (x : Lexeme) × (IsReadTo x read.reach read.passed_break
+        × CanLayAll before (scanner_of text state.old) read.met x) }
     ensures laid { (text : Text) (d : TokenData) (b e : yaml_mark_t) (t : code_token_t)
-        → CanLayAll before (scanner_of text state.old) met (read_to d b e reach passed_break)
-        → IsTokenOf t d met.new.start e
-        → IsLaidAlone before (scanner_of text state.old) (scanner_of text state.new) met.kind result.2
+        → CanLayAll before (scanner_of text state.old) read.met (read_to d b e read.reach read.passed_break)
+        → IsTokenOf t d read.met.new.start e
+        → IsLaidAlone before (scanner_of text state.old) (scanner_of text state.new) read.met.kind result.2
         (group_with result.0 result.1 false t) }
-    ensures room { result.2 ≡ false → S.within sink.now → (t : code_token_t) → said_len (token_of t).token_data ≤ texts
-        → (after : S) → S.took sink.now (group_tokens (group_with result.0 result.1 false t)) after → S.within after }
+    ensures room { result.2 ≡ false → S.within sink.now → (t : code_token_t)
+        → said_len (token_of t).token_data ≤ read.texts → (after : S)
+        → S.took sink.now (group_tokens (group_with result.0 result.1 false t)) after → S.within after }
 {
-    let (ends, opens) = lay_lexeme(state, met, reach, passed_break);
-    let waits = has_to_wait(state, sink, met.kind, ends, opens, texts);
+    let (ends, opens) = lay_lexeme(state, read);
+    let waits = has_to_wait(state, read.met.kind)
+        || !has_room_for_laid(sink, ends, opens, read.texts);
     (ends, opens, waits)
 }
 
@@ -164,42 +149,38 @@ fn is_queued(waits: bool, direct: bool) -> bool
     waits || !direct
 }
 
-/// Lays the lexeme of a step, which was read to a mark, and with it what comes right after it, if the next token needs
-/// both. Its texts have so many bytes.
+/// Lays the lexeme of a step, which was read, and with it what comes right after it, if the next token needs both.
 #[inline(always)]
 fn lay_all<const DIRECT: bool, S: yaml_token_sink_t>(
     text: &yaml_text_t,
     state: &mut state_t,
     sink: &S,
-    met: met_t,
-    reach: yaml_mark_t,
-    passed_break: bool,
-    texts: u128,
+    read: read_t,
 ) -> laid_t
     ghost before: { List Laid }
-    requires { (x : Lexeme) × (IsReadTo x reach passed_break × CanLayAll before
-        (scanner_of text.now state.old) met x) }
+    requires { (x : Lexeme) × (IsReadTo x read.reach read.passed_break × CanLayAll before
+        (scanner_of text.now state.old) read.met x) }
     ensures laid { (d : TokenData) (b e : yaml_mark_t) (t : code_token_t)
-        → CanLayAll before (scanner_of text.now state.old) met (read_to d b e reach passed_break)
-        → IsTokenOf t d met.new.start e
+        → CanLayAll before (scanner_of text.now state.old) read.met (read_to d b e read.reach read.passed_break)
+        → IsTokenOf t d read.met.new.start e
         → WasLaid before (scanner_of text.now state.old) (scanner_of text.now state.new) DIRECT result t }
-    ensures room { FindsRoom result texts (S.within sink.now) (λ tokens. (after : S) → S.took sink.now tokens after
+    ensures room { FindsRoom result read.texts (S.within sink.now) (λ tokens. (after : S) → S.took sink.now tokens after
         → S.within after) }
 {
-    let direct = has_room_for_both::<DIRECT, S>(sink, &state.layout.levels, texts);
-    match follower_of(text, state, !direct, met, reach) {
+    let direct = has_room_for_both::<DIRECT, S>(sink, &state.layout.levels, read.texts);
+    match follower_of(text, state, !direct, read) {
         Some(follower) => {
-            let (ends, opens, key) = lay_followed(state, met, reach, &follower);
+            let (ends, opens, key) = lay_followed(state, read, &follower);
             laid_t {
                 ends,
                 opens,
                 key,
                 waits: is_queued(follower.waits, direct),
-                decider: Some(token_of(reach, follower.decider.lexeme)),
+                decider: Some(token_of(read.reach, follower.decider.lexeme)),
             }
         }
         None => {
-            let (ends, opens, waits) = lay_alone(state, sink, met, reach, passed_break, texts);
+            let (ends, opens, waits) = lay_alone(state, sink, read);
             laid_t {
                 ends,
                 opens,
@@ -257,10 +238,13 @@ pub(crate) fn end_character<const DIRECT: bool, S: yaml_token_sink_t>(
 {
     match check_reach(text, state, met, &lexeme) {
         Ok(_) => {
-            let texts = said_len(&lexeme.token_data);
-            let reach = lexeme.reach;
-            let passed_break = lexeme.passed_break;
-            let (ends, opens, waits) = lay_alone(state, sink, met, reach, passed_break, texts);
+            let read = read_t {
+                met,
+                reach: lexeme.reach,
+                passed_break: lexeme.passed_break,
+                texts: said_len(&lexeme.token_data),
+            };
+            let (ends, opens, waits) = lay_alone(state, sink, read);
             let group = group_t {
                 ends,
                 opens,
@@ -301,16 +285,13 @@ pub(crate) fn lay_read<const DIRECT: bool, S: yaml_token_sink_t>(
     match read {
         Ok(lexeme) => match check_reach(text, state, met, &lexeme) {
             Ok(_) => {
-                let texts = said_len(&lexeme.token_data);
-                let laid = lay_all::<DIRECT, S>(
-                    text,
-                    state,
-                    sink,
+                let read = read_t {
                     met,
-                    lexeme.reach,
-                    lexeme.passed_break,
-                    texts,
-                );
+                    reach: lexeme.reach,
+                    passed_break: lexeme.passed_break,
+                    texts: said_len(&lexeme.token_data),
+                };
+                let laid = lay_all::<DIRECT, S>(text, state, sink, read);
                 Ok((laid, token_of(met.new.start, lexeme)))
             }
             Err(stop) => Err(stopped(stop)),

@@ -19,6 +19,7 @@ mod met;
 mod near;
 mod parser;
 mod queue;
+mod read;
 mod room;
 mod session;
 mod settled;

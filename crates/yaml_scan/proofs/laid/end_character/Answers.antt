@@ -35,7 +35,7 @@ returns-in-Ok-hand_keyless-clause-steps g c =
 pub returns-in-Ok-hand_keyless-clause-within : goal.returns-in-Ok-hand_keyless-clause-within
 returns-in-Ok-hand_keyless-clause-within g c =
     known_after _ _ _ _ _ (λ ts. g.S.yaml_token_sink_t.took c.args.sink.now ts c.hand_keyless.new.sink) g.S.yaml_token_sink_t.may_refuse _ (λ w within. g.met.S.yaml_token_sink_t.within_none c.args.sink.now c.hand_keyless.new.sink w within)
-    (λ e w within. c.lay_alone-ends.ensures.room e within c.token_of.result (let v = ap (λ (z : yaml_token_t). said_len z.token_data) c.token_of.ensures in let w = c.said_len-texts.ensures in omega arith) c.hand_keyless.new.sink w) (Ok _) (c.in-Ok-hand_keyless.ensures c.args.text.now)
+    (λ e w within. c.lay_alone-ends.ensures.room e within c.token_of.result (let v = ap (λ (z : yaml_token_t). said_len z.token_data) c.token_of.ensures in let w = c.said_len.ensures in omega arith) c.hand_keyless.new.sink w) (Ok _) (c.in-Ok-hand_keyless.ensures c.args.text.now)
 
 pub returns-in-Err-hand_keyless-clause-steps : goal.returns-in-Err-hand_keyless-clause-steps
 returns-in-Err-hand_keyless-clause-steps g c =

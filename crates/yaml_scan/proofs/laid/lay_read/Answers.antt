@@ -14,7 +14,7 @@ returns-in-Ok-check_reach-clause-laid g c =
 
 pub returns-in-Ok-check_reach-clause-room : goal.returns-in-Ok-check_reach-clause-room
 returns-in-Ok-check_reach-clause-room g c = λ e within t few after took.
-    c.lay_all-laid.ensures.room e within t (let v = ap (λ (z : yaml_token_t). said_len z.token_data) c.token_of.ensures in let w = c.said_len-texts.ensures in omega arith) after took
+    c.lay_all-laid.ensures.room e within t (let v = ap (λ (z : yaml_token_t). said_len z.token_data) c.token_of.ensures in let w = c.said_len.ensures in omega arith) after took
 
 pub returns-in-Err-clause-laid : goal.returns-in-Err-clause-laid
 returns-in-Err-clause-laid g c = search rules
