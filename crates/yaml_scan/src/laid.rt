@@ -21,7 +21,6 @@ ghost use Rattle.yaml_scan.specs.declared.groups.group_t.{group_t};
 ghost use Rattle.yaml_scan.specs.inside.TextReads.{IsRead};
 
 use crate::allowed::is_allowed_after;
-use crate::follower::{follower_of, lay_followed};
 use crate::groups::{block_t, group_t};
 use crate::keys::{completed_by, is_lost};
 use crate::kind::is_stream_end;
@@ -29,12 +28,11 @@ use crate::levels::close_levels;
 use crate::met::met_t;
 use crate::read::read_t;
 use crate::sink::{
-    hand_keyless, hand_on, hand_token, has_room_for_both, has_room_for_laid, no_sink_t, said_len,
-    yaml_token_sink_t,
+    hand_keyless, hand_on, hand_token, has_room_for_laid, no_sink_t, said_len, yaml_token_sink_t,
 };
 use crate::state::state_t;
-use crate::stop::{stop_after, stop_in_lexeme, stop_t, stopped};
-use yaml_lexeme::{yaml_lexeme_kind_t, yaml_lexeme_t, yaml_refusal_t};
+use crate::stop::{stop_after, stop_t, stopped};
+use yaml_lexeme::{yaml_lexeme_kind_t, yaml_lexeme_t};
 use yaml_text::{yaml_mark_t, yaml_text_t, yaml_token_t};
 
 /// The token of a lexeme that starts at a mark.
@@ -118,7 +116,7 @@ fn has_to_wait(state: &state_t, kind: yaml_lexeme_kind_t) -> bool
 /// Lays the lexeme of a step, which was read. Returns how many block ends its group hands out, what that opens, and
 /// whether it has to wait, since others do or the sink has no room for it.
 #[inline(always)]
-fn lay_alone<S: yaml_token_sink_t>(
+pub(crate) fn lay_alone<S: yaml_token_sink_t>(
     state: &mut state_t,
     sink: &S,
     read: read_t,
@@ -143,58 +141,15 @@ fn lay_alone<S: yaml_token_sink_t>(
 
 /// Whether what was laid together goes through the queue: it has to wait there, or it does not go straight to the sink.
 #[inline(always)]
-fn is_queued(waits: bool, direct: bool) -> bool
+pub(crate) fn is_queued(waits: bool, direct: bool) -> bool
     ensures { result ≡ (waits || not direct) }
 {
     waits || !direct
 }
 
-/// Lays the lexeme of a step, which was read, and with it what comes right after it, if the next token needs both.
-#[inline(always)]
-fn lay_all<const DIRECT: bool, S: yaml_token_sink_t>(
-    text: &yaml_text_t,
-    state: &mut state_t,
-    sink: &S,
-    read: read_t,
-) -> laid_t
-    ghost before: { List Laid }
-    requires { (x : Lexeme) × (IsReadTo x read.reach read.passed_break × CanLayAll before
-        (scanner_of text.now state.old) read.met x) }
-    ensures laid { (d : TokenData) (b e : yaml_mark_t) (t : code_token_t)
-        → CanLayAll before (scanner_of text.now state.old) read.met (read_to d b e read.reach read.passed_break)
-        → IsTokenOf t d read.met.new.start e
-        → WasLaid before (scanner_of text.now state.old) (scanner_of text.now state.new) DIRECT result t }
-    ensures room { FindsRoom result read.texts (S.within sink.now) (λ tokens. (after : S) → S.took sink.now tokens after
-        → S.within after) }
-{
-    let direct = has_room_for_both::<DIRECT, S>(sink, &state.layout.levels, read.texts);
-    match follower_of(text, state, !direct, read) {
-        Some(follower) => {
-            let (ends, opens, key) = lay_followed(state, read, &follower);
-            laid_t {
-                ends,
-                opens,
-                key,
-                waits: is_queued(follower.waits, direct),
-                decider: Some(token_of(read.reach, follower.decider.lexeme)),
-            }
-        }
-        None => {
-            let (ends, opens, waits) = lay_alone(state, sink, read);
-            laid_t {
-                ends,
-                opens,
-                key: false,
-                waits,
-                decider: None,
-            }
-        }
-    }
-}
-
 /// Stops if the lexeme of a step, which was read, reaches near the reader's fault, or if a candidate is lost there.
 #[inline(always)]
-fn check_reach(
+pub(crate) fn check_reach(
     text: &yaml_text_t,
     state: &mut state_t,
     met: met_t,
@@ -212,91 +167,47 @@ fn check_reach(
     let lost = is_lost(state.root_after(met), met.in_flow, state.limit, reach);
     if state.near <= reach.index || lost {
         state.there = reach;
-        return Err(stop_after(text, state, met.in_flow, met.kind, met.allowed));
+        return Err(stop_after(text, state, met.in_flow, met.kind));
     }
     Ok(())
 }
 
 /// Ends a step with a lexeme that was read: one character, a document marker or the stream end. What comes right after
-/// it is not asked for. Stops if it is near the reader's fault, or a candidate is lost.
+/// it is not asked for.
 #[inline(always)]
 pub(crate) fn end_character<const DIRECT: bool, S: yaml_token_sink_t>(
-    text: &yaml_text_t,
     state: &mut state_t,
     sink: &mut S,
     met: met_t,
     lexeme: yaml_lexeme_t,
 ) -> Result<(), stop_t>
     ghost before: { List Laid }
-    requires { CanRead before (scanner_of text.now state.old) met
-        × ((p : ℕ) → IsMarkOf text.now.chars state.old.gap_end p
-        → IsRead text.now.chars met.kind met.context.depth met.context.level p (lexeme_of lexeme)) }
-    ensures steps { StepsTo before (scanner_of text.now state.old) (scanner_of text.now state.new) DIRECT
+    requires { (text : Text) × CanLayAll before (scanner_of text state.old) met (lexeme_of lexeme) }
+    ensures steps { (text : Text) → CanLayAll before (scanner_of text state.old) met (lexeme_of lexeme)
+        → StepsTo before (scanner_of text state.old) (scanner_of text state.new) DIRECT
         (λ tokens. S.took sink.old tokens sink.new)
         S.may_refuse result }
     ensures within { OnOk result (S.within sink.old → S.within sink.new) }
 {
-    match check_reach(text, state, met, &lexeme) {
+    let read = read_t {
+        met,
+        reach: lexeme.reach,
+        passed_break: lexeme.passed_break,
+        texts: said_len(&lexeme.token_data),
+    };
+    let (ends, opens, waits) = lay_alone(state, sink, read);
+    let group = group_t {
+        ends,
+        opens,
+        key: false,
+        token: token_of(met.new.start, lexeme),
+    };
+    match hand_keyless::<DIRECT, S>(state, sink, waits, group) {
         Ok(_) => {
-            let read = read_t {
-                met,
-                reach: lexeme.reach,
-                passed_break: lexeme.passed_break,
-                texts: said_len(&lexeme.token_data),
-            };
-            let (ends, opens, waits) = lay_alone(state, sink, read);
-            let group = group_t {
-                ends,
-                opens,
-                key: false,
-                token: token_of(met.new.start, lexeme),
-            };
-            match hand_keyless::<DIRECT, S>(state, sink, waits, group) {
-                Ok(_) => {
-                    state.made += 1;
-                    Ok(())
-                }
-                Err(stop) => Err(stopped(stop)),
-            }
+            state.made += 1;
+            Ok(())
         }
         Err(stop) => Err(stopped(stop)),
-    }
-}
-
-/// Lays what was read for a step. Returns what was laid, and its token. Stops if it was refused, if it is near the
-/// reader's fault, or if a candidate is lost.
-#[inline(always)]
-pub(crate) fn lay_read<const DIRECT: bool, S: yaml_token_sink_t>(
-    text: &yaml_text_t,
-    state: &mut state_t,
-    sink: &S,
-    met: met_t,
-    read: Result<yaml_lexeme_t, yaml_refusal_t>,
-) -> Result<(laid_t, yaml_token_t), stop_t>
-    ghost before: { List Laid }
-    requires { CanRead before (scanner_of text.now state.old) met
-        × IsReadIn (scanner_of text.now state.old) met.kind met.context state.old.there read }
-    ensures laid { MatchResult result (λ r. WasLaid before (scanner_of text.now state.old)
-        (scanner_of text.now state.new) DIRECT r.0 r.1)
-        (λ stop. Refuses before (scanner_of text.now state.old) (scanner_of text.now state.new) stop) }
-    ensures room { IfOk result (λ r. FindsRoom r.0 (said_len (data_of r.1.token_data)) (S.within sink.now) (λ tokens.
-        (after : S) → S.took sink.now tokens after → S.within after)) }
-{
-    match read {
-        Ok(lexeme) => match check_reach(text, state, met, &lexeme) {
-            Ok(_) => {
-                let read = read_t {
-                    met,
-                    reach: lexeme.reach,
-                    passed_break: lexeme.passed_break,
-                    texts: said_len(&lexeme.token_data),
-                };
-                let laid = lay_all::<DIRECT, S>(text, state, sink, read);
-                Ok((laid, token_of(met.new.start, lexeme)))
-            }
-            Err(stop) => Err(stopped(stop)),
-        },
-        Err(refusal) => Err(stop_in_lexeme(text, state, met.kind, refusal)),
     }
 }
 
@@ -372,6 +283,18 @@ pub(crate) fn end_laid<const DIRECT: bool, S: yaml_token_sink_t>(
 
 /// Ends a step with a lexeme that was read and needs nothing of what comes after it. Its group goes into the queue.
 #[inline(always)]
+fn end_in_queue(state: &mut state_t, met: met_t, lexeme: yaml_lexeme_t) -> Result<(), stop_t>
+    ghost before: { List Laid }
+    requires { (text : Text) × CanLayAll before (scanner_of text state.old) met (lexeme_of lexeme) }
+    ensures { (text : Text) → CanLayAll before (scanner_of text state.old) met (lexeme_of lexeme)
+        → IsStep before (scanner_of text state.old) (scanner_of text state.new) result }
+{
+    end_character::<false, no_sink_t>(state, &mut no_sink_t {}, met, lexeme)
+}
+
+/// Ends a step with a lexeme that was read and needs nothing of what comes after it, and queues its group. Stops if it
+/// is near the reader's fault, or a candidate is lost.
+#[inline(always)]
 pub(crate) fn end_queued(
     text: &yaml_text_t,
     state: &mut state_t,
@@ -384,5 +307,8 @@ pub(crate) fn end_queued(
         → IsRead text.now.chars met.kind met.context.depth met.context.level p (lexeme_of lexeme)) }
     ensures { IsStep before (scanner_of text.now state.old) (scanner_of text.now state.new) result }
 {
-    end_character::<false, no_sink_t>(text, state, &mut no_sink_t {}, met, lexeme)
+    match check_reach(text, state, met, &lexeme) {
+        Ok(_) => end_in_queue(state, met, lexeme),
+        Err(stop) => Err(stopped(stop)),
+    }
 }

@@ -300,18 +300,18 @@ pub(crate) fn stop_after(
     state: &mut state_t,
     in_flow: bool,
     kind: yaml_lexeme_kind_t,
-    allowed: bool,
 ) -> stop_t
     ghost before: { List Laid }
     requires { (met : met_t) × (lexeme : yaml_lexeme_t) × StopsAfter before
         (scanner_of text.now state.old) met lexeme
-        × (met.in_flow ≡ in_flow) × (met.kind ≡ kind) × (met.allowed ≡ allowed) }
+        × (met.in_flow ≡ in_flow) × (met.kind ≡ kind) }
     ensures { Refuses before (scanner_of text.now state.old) (scanner_of text.now state.new) result }
 {
     let there = state.there;
     if state.near <= there.index {
         return stop_near(text, state);
     }
+    let allowed = is_key_allowed(state.allowed, in_flow, state.reach, state.gap_end);
     let met = state.met_of(in_flow, kind, allowed);
     match lost_at(state.root_after(met), state.limit, there) {
         Some(held) => stop_without(text, state, held, there),

@@ -31,5 +31,4 @@ stop_after-requires g c =
       },
       refl,
       refl,
-      refl,
     )

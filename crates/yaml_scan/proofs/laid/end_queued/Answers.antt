@@ -1,6 +1,10 @@
-use Rattle.yaml_scan.specs.inside.Scanner.{scanner_of}
-use Rattle.yaml_scan.proofs.RunningStep.StepMoves.{only_queued}
 use Rattle.yaml_scan.proofs.laid.end_queued.Goals as goal
 
-pub returns : goal.returns
-returns g c = only_queued g.before (scanner_of c.args.text.now c.args.state.now) (scanner_of c.args.text.now c.end_character.new.state) _ _ c.end_character.result c.end_character.ensures.steps
+pub end_in_queue-requires : goal.end_in_queue-requires
+end_in_queue-requires g c = (c.args.text.now, (rw c.in-Ok.ensures.0 c.in-Ok.ensures.1))
+
+pub returns-in-Ok : goal.returns-in-Ok
+returns-in-Ok g c = rw (← c.in-Ok.ensures.0) (c.end_in_queue.ensures c.args.text.now (rw c.in-Ok.ensures.0 c.in-Ok.ensures.1))
+
+pub returns-in-Err : goal.returns-in-Err
+returns-in-Err g c = rw c.stopped.ensures c.in-Err.ensures

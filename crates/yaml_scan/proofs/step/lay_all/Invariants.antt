@@ -1,4 +1,4 @@
-use Rattle.yaml_scan.proofs.laid.lay_all.Given as goal
+use Rattle.yaml_scan.proofs.step.lay_all.Given as goal
 
 abbrev pub ghost-lay_followed : goal.ghost-lay_followed
 ghost-lay_followed g a = g.before

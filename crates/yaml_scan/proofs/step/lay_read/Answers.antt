@@ -2,7 +2,7 @@ use Rattle.std.proofs.Common.{rules, arith, ap, refl}
 use Rattle.yaml_lexeme.specs.LexemeOf.{lexeme_of}
 use Rattle.yaml_scan.specs.Sink.{said_len}
 use Rattle.yaml_scan.specs.Token.{yaml_token_t}
-use Rattle.yaml_scan.proofs.laid.lay_read.Goals as goal
+use Rattle.yaml_scan.proofs.step.lay_read.Goals as goal
 
 pub lay_all-laid-requires : goal.lay_all-laid-requires
 lay_all-laid-requires g c = λ κs w. (search rules, (search rules, (lexeme_of c.in-Ok.lexeme, ((refl, refl), (rw c.in-Ok-check_reach.ensures.0 c.in-Ok-check_reach.ensures.1)))))

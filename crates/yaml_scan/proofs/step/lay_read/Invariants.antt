@@ -1,4 +1,4 @@
-use Rattle.yaml_scan.proofs.laid.lay_read.Given as goal
+use Rattle.yaml_scan.proofs.step.lay_read.Given as goal
 
 abbrev pub ghost-check_reach : goal.ghost-check_reach
 ghost-check_reach g a = g.before

@@ -8,7 +8,7 @@ use Rattle.yaml_scan.specs.inside.Scanning.{CanLayAll}
 use Rattle.yaml_scan.specs.inside.Handed.{group_tokens, group_with, lone, read_to}
 use Rattle.yaml_scan.proofs.RunningStep.StepHanded.{candidate_says, decider_len, decider_says, decider_words, early_there, few_given, few_queued, follower_alone, follower_candidate, follower_decides, follower_room, not_queued, words_there}
 use Rattle.yaml_scan.proofs.RunningStep.TwoLaid.{read_place}
-use Rattle.yaml_scan.proofs.laid.lay_all.Goals as goal
+use Rattle.yaml_scan.proofs.step.lay_all.Goals as goal
 
 pub follower_of-requires-clause-done : goal.follower_of-requires-clause-done
 follower_of-requires-clause-done g c = let r = c.requires.1.1 in let k = r.1.1 in few_queued g.before (scanner_of c.args.text.now c.args.state.now) k.can.can
