@@ -1,4 +1,4 @@
-use Rattle.std.proofs.Common.{rules, inl, ◌∙◌}
+use Rattle.std.proofs.Common.{rules, inl}
 use Rattle.yaml_lexeme.specs.LexemeOf.{lexeme_of}
 use Rattle.yaml_scan.specs.inside.Scanner.{scanner_of}
 use Rattle.yaml_scan.proofs.RunningStep.StepMoves.{read_as_met, step_to_from, stop_from}
