@@ -17,8 +17,8 @@ CALL = ("yaml_listing", "run", "run")
 LEFT_OUT = {("yaml_listing", "answer", "list_decoded"), ("yaml_listing", "answer", "list_called")}
 SHOWN = {
     "yaml_listing": "run answer line put",
-    "yaml_scan": "give parser step source layout groups sink",
-    "yaml_lexeme": "gap kind lex reader plain place runs",
+    "yaml_scan": "give parser step source laid groups sink",
+    "yaml_lexeme": "gap kind lex plain place runs",
     "yaml_text": "decode ascii blocks",
 }
 MOST_FUNCTIONS = 3
@@ -99,21 +99,11 @@ def home(crate, path, name):
     return (crate, first) if found(f"crates/{crate}/src/{first}.rt") else None
 
 
-def owner(crate, name, of_type, function):
-    """The module that has a function of a type: the type's own, or one of its crate that has a further `impl` of the type."""
-    if function not in module(crate, name)[1]:
-        for path in found(f"crates/{crate}/src/*.rt"):
-            other = os.path.basename(path)[: -len(".rt")]
-            if f"\nimpl {of_type} {{\n" in read(path) and function in module(crate, other)[1]:
-                return crate, other
-    return crate, name
-
-
 def called(crate, name, function):
     """The functions that the body of a function calls, in order, each with its crate and module.
 
     A method is that of this module or of one that a type comes from, and of a trait if one of these declares it. A function of a
-    type parameter is that of this module, or of one that a trait comes from.
+    type parameter is that of this module.
     """
     brought, functions = module(crate, name)
     homes = {word: home(crate, path, word) for word, path in brought.items()}
@@ -123,11 +113,11 @@ def called(crate, name, function):
             having = [place for place in places if word in module(*place)[1]]
             yield from [(*place, word) for place in sorted(having, key=lambda place: module(*place)[1][word] is not None)][:1]
         elif homes.get(word):
-            yield (*owner(*homes[word], word, inner), inner) if inner else (*homes[word], word)
+            yield (*homes[word], inner or word)
         elif word in functions and not inner:
             yield crate, name, word
-        elif len(word) == 1:
-            yield from [(*place, inner) for place in places if inner in module(*place)[1]][:1]
+        elif inner in functions and len(word) == 1:
+            yield crate, name, inner
 
 
 def made_by(crate, name, function):

@@ -22,17 +22,21 @@ ghost use Rattle.yaml_scan.specs.Groups.Token.{BlockEnd};
 ghost use Rattle.yaml_scan.specs.Kind.{is_flow_start, is_stream_end, is_candidate_kind, is_value};
 ghost use Rattle.yaml_scan.specs.Levels.{stays};
 ghost use Rattle.yaml_scan.specs.inside.Scanner.{scanner_of};
-ghost use Rattle.yaml_scan.specs.inside.Scanning.{CanLayAll, IsUndecided, LaysTwo, groups_in, Waits};
-ghost use Rattle.yaml_scan.specs.inside.Scanning.{IsFollower, IsFollowed};
+ghost use Rattle.yaml_scan.specs.inside.Scanning.{CanLayAll, IsUndecided, LaysTwo, groups_in, Waits, IsFollower};
+ghost use Rattle.yaml_scan.specs.inside.Scanning.{IsFollowed};
 ghost use Rattle.yaml_scan.specs.inside.Slots.{Held, is_live};
 
 use crate::allowed::is_allowed_after;
-use crate::depth::{is_flow_start, slots_t};
-use crate::groups::{block_t, queue_t};
-use crate::kind::{is_candidate_kind, is_colon, step_t};
+use crate::decider::{decider_at, decider_t};
+use crate::depth::is_flow_start;
+use crate::groups::block_t;
+use crate::kind::{is_candidate_kind, is_colon};
 use crate::levels::{close_levels, closing, is_new_level, open_level};
-use crate::scanner::state_t;
-use crate::source::{decider_at, decider_t};
+use crate::met::met_t;
+use crate::queue::queue_t;
+use crate::read::read_t;
+use crate::slots::slots_t;
+use crate::state::state_t;
 use yaml_lexeme::yaml_lexeme_kind_t;
 use yaml_text::{yaml_mark_t, yaml_text_t};
 
@@ -57,21 +61,16 @@ fn keeps_levels(levels: &[u64], in_flow: bool, kind: yaml_lexeme_kind_t, start: 
 /// and no other token is before it. If `sparing`, its step closes no level, so that its token comes next. There is room
 /// for both.
 #[inline(always)]
-pub(crate) fn is_undecided(state: &state_t, sparing: bool, step: step_t, reach: yaml_mark_t) -> bool
-    ensures { (text : Text) → result ≡ true → IsUndecided (scanner_of text state.now) sparing step reach }
+pub(crate) fn is_undecided(state: &state_t, sparing: bool, read: read_t) -> bool
+    ensures { (text : Text) → result ≡ true → IsUndecided (scanner_of text state.now) sparing read.met read.reach }
 {
-    is_candidate_kind(step.kind)
-        && !is_flow_start(step.kind)
-        && step.allowed
+    let met = read.met;
+    is_candidate_kind(met.kind)
+        && !is_flow_start(met.kind)
+        && met.allowed
         && has_room_for_two(&state.layout.queue)
-        && (!sparing
-            || keeps_levels(
-                &state.layout.levels,
-                step.in_flow,
-                step.kind,
-                step.new.start,
-            ))
-        && step.new.is_live(state.limit, reach)
+        && (!sparing || keeps_levels(&state.layout.levels, met.in_flow, met.kind, met.new.start))
+        && met.new.is_live(state.limit, read.reach)
 }
 
 /// The start of a block mapping, or none.
@@ -89,22 +88,22 @@ fn mapping_start(opens: bool) -> block_t
 /// Closes the levels that the candidate of a step does not keep. If it is a key in a column above the others, opens
 /// that; outside flow there is room for it. Returns how many levels end at the candidate, and what it opens.
 #[inline(always)]
-pub(crate) fn lay_candidate(levels: &mut Vec<u64>, step: step_t, key: bool) -> (usize, block_t)
+pub(crate) fn lay_candidate(levels: &mut Vec<u64>, met: met_t, key: bool) -> (usize, block_t)
     requires falls { IsFalling (reverse levels.old.items) }
-    requires room { step.in_flow ≡ false → vec_len levels.old < vec_capacity levels.old }
-    requires last { is_stream_end step.kind ≡ false }
+    requires room { met.in_flow ≡ false → vec_len levels.old < vec_capacity levels.old }
+    requires last { is_stream_end met.kind ≡ false }
     ensures levels { (left : List ℕ) × (reverse left
-        ≡ filter (stays step.in_flow step.kind step.new.start) (reverse levels.old.items))
-        × (reverse levels.new.items ≡ (if key && is_new step.in_flow step.new.start.column (reverse left)
-        then step.new.start.column ∷ [] else []) ++ reverse left)
-        × (result.1 ≡ (if key && is_new step.in_flow step.new.start.column (reverse left) then MAPPING else NONE)) }
-    ensures ends { ends_at result.0 step.new.start ≡ map (λ c. BlockEnd step.new.start) (filter (λ c.
-        not (stays step.in_flow step.kind step.new.start c)) (reverse levels.old.items)) }
+        ≡ filter (stays met.in_flow met.kind met.new.start) (reverse levels.old.items))
+        × (reverse levels.new.items ≡ (if key && is_new met.in_flow met.new.start.column (reverse left)
+        then met.new.start.column ∷ [] else []) ++ reverse left)
+        × (result.1 ≡ (if key && is_new met.in_flow met.new.start.column (reverse left) then MAPPING else NONE)) }
+    ensures ends { ends_at result.0 met.new.start ≡ map (λ c. BlockEnd met.new.start) (filter (λ c.
+        not (stays met.in_flow met.kind met.new.start c)) (reverse levels.old.items)) }
     ensures few { result.0 ≤ length levels.old.items }
 {
-    let start = step.new.start;
-    let closed = close_levels(levels, step, start);
-    let opens = key && is_new_level(levels, step.in_flow, start.column);
+    let start = met.new.start;
+    let closed = close_levels(levels, met, start);
+    let opens = key && is_new_level(levels, met.in_flow, start.column);
     open_level(levels, opens, start.column);
     (closed.ends, mapping_start(opens))
 }
@@ -137,12 +136,12 @@ fn is_awaited_with_room(state: &state_t) -> bool
 /// Whether the slot of its depth is known after the lexeme of a step, which was read up to a mark: if a key is allowed,
 /// the lexeme is the candidate, and live, and if not, there is none.
 #[inline(always)]
-fn has_known_slot(state: &state_t, step: step_t, reach: yaml_mark_t) -> bool
-    ensures key { result ≡ true → step.allowed ≡ true → is_live state.now.limit reach step.new ≡ true }
-    ensures none { result ≡ true → step.allowed ≡ false → state.now.slots.top ≡ None }
+fn has_known_slot(state: &state_t, read: read_t) -> bool
+    ensures key { result ≡ true → read.met.allowed ≡ true → is_live state.now.limit read.reach read.met.new ≡ true }
+    ensures none { result ≡ true → read.met.allowed ≡ false → state.now.slots.top ≡ None }
 {
-    if step.allowed {
-        step.new.is_live(state.limit, reach)
+    if read.met.allowed {
+        read.met.new.is_live(state.limit, read.reach)
     } else {
         state.slots.top.is_none()
     }
@@ -166,16 +165,16 @@ pub(crate) fn is_outer_live(slots: &slots_t, limit: u64, mark: yaml_mark_t) -> b
 /// Whether the lexeme of a step, which was read up to a mark, is in flow and has to wait until an earlier candidate is
 /// decided. There is room for it and for one group more, and the slot of its depth is known.
 #[inline(always)]
-pub(crate) fn waits(state: &state_t, step: step_t, reach: yaml_mark_t) -> bool
+pub(crate) fn waits(state: &state_t, read: read_t) -> bool
     requires { state.now.layout.queue.done + 1 < 2 ^ 64 }
-    ensures { (text : Text) → result ≡ true → Waits (scanner_of text state.now) step reach }
+    ensures { (text : Text) → result ≡ true → Waits (scanner_of text state.now) read.met read.reach }
 {
     state.slots.awaited > 0
-        && step.in_flow
-        && is_candidate_kind(step.kind)
-        && !is_flow_start(step.kind)
+        && read.met.in_flow
+        && is_candidate_kind(read.met.kind)
+        && !is_flow_start(read.met.kind)
         && is_awaited_with_room(state)
-        && has_known_slot(state, step, reach)
+        && has_known_slot(state, read)
 }
 
 /// What comes right after a lexeme.
@@ -190,13 +189,14 @@ pub(crate) struct follower_t {
 /// Whether the next token needs what comes right after the lexeme of a step, which was read up to a mark: `None` if it
 /// may not, and else whether both have to wait until a candidate of an outer depth is decided.
 #[inline(always)]
-fn followed_by(state: &state_t, sparing: bool, step: step_t, reach: yaml_mark_t) -> Option<bool>
+fn followed_by(state: &state_t, sparing: bool, read: read_t) -> Option<bool>
     requires { state.now.layout.queue.done + 1 < 2 ^ 64 }
-    ensures { (text : Text) → IfSome result (λ w. IsFollowed (scanner_of text state.now) sparing step reach w) }
+    ensures { (text : Text) → IfSome result (λ w. IsFollowed (scanner_of text state.now) sparing read.met read.reach
+        w) }
 {
-    if is_undecided(state, sparing, step, reach) {
+    if is_undecided(state, sparing, read) {
         Some(false)
-    } else if waits(state, step, reach) {
+    } else if waits(state, read) {
         Some(true)
     } else {
         None
@@ -221,16 +221,15 @@ pub(crate) fn follower_of(
     text: &yaml_text_t,
     state: &state_t,
     sparing: bool,
-    step: step_t,
-    reach: yaml_mark_t,
+    read: read_t,
 ) -> Option<follower_t>
     requires done { state.now.layout.queue.done + 1 < 2 ^ 64 }
-    requires place { is_candidate_kind step.kind ≡ true → (p : ℕ) × IsMarkOf text.now.chars reach p }
-    ensures { IfSome result (λ f. IsFollower (scanner_of text.now state.now) sparing step reach f.waits f.decider.kind
-        (lexeme_of f.decider.lexeme)) }
+    requires place { is_candidate_kind read.met.kind ≡ true → (p : ℕ) × IsMarkOf text.now.chars read.reach p }
+    ensures { IfSome result (λ f. IsFollower (scanner_of text.now state.now) sparing read.met read.reach f.waits
+        f.decider.kind (lexeme_of f.decider.lexeme)) }
 {
-    let waits = followed_by(state, sparing, step, reach)?;
-    let decider = decider_at(text, reach, step.in_flow)?;
+    let waits = followed_by(state, sparing, read)?;
+    let decider = decider_at(text, read.reach, read.met.in_flow)?;
     if may_follow(state, waits, decider.lexeme.reach) {
         Some(follower_t { decider, waits })
     } else {
@@ -241,34 +240,34 @@ pub(crate) fn follower_of(
 /// Whether the lexeme of a step is a key, if a lexeme of a kind comes right after it. One that waits is no key where
 /// none is allowed.
 #[inline(always)]
-fn is_key(step: step_t, waits: bool, kind: yaml_lexeme_kind_t) -> bool
-    ensures { result ≡ ((not waits || step.allowed) && is_value kind) }
+fn is_key(met: met_t, waits: bool, kind: yaml_lexeme_kind_t) -> bool
+    ensures { result ≡ ((not waits || met.allowed) && is_value kind) }
 {
-    (!waits || step.allowed) && is_colon(kind)
+    (!waits || met.allowed) && is_colon(kind)
 }
 
 /// Closes the levels that the lexeme of a step does not keep, and opens one if it is a key in a column above the
 /// others. If it waits, it is in flow, where no level ends and none begins. Returns how many levels end at the lexeme,
 /// and what it opens.
 #[inline(always)]
-fn lay_levels(levels: &mut Vec<u64>, step: step_t, key: bool, waits: bool) -> (usize, block_t)
+fn lay_levels(levels: &mut Vec<u64>, met: met_t, key: bool, waits: bool) -> (usize, block_t)
     requires falls { waits ≡ false → IsFalling (reverse levels.old.items) }
-    requires room { step.in_flow ≡ false → vec_len levels.old < vec_capacity levels.old }
-    requires last { waits ≡ false → is_stream_end step.kind ≡ false }
+    requires room { met.in_flow ≡ false → vec_len levels.old < vec_capacity levels.old }
+    requires last { waits ≡ false → is_stream_end met.kind ≡ false }
     ensures same { waits ≡ true → (levels.new ≡ levels.old) × (result.0 ≡ 0) × (result.1 ≡ NONE) }
     ensures levels { waits ≡ false → (left : List ℕ) × (reverse left
-        ≡ filter (stays step.in_flow step.kind step.new.start) (reverse levels.old.items))
-        × (reverse levels.new.items ≡ (if key && is_new step.in_flow step.new.start.column (reverse left)
-        then step.new.start.column ∷ [] else []) ++ reverse left)
-        × (result.1 ≡ (if key && is_new step.in_flow step.new.start.column (reverse left) then MAPPING else NONE)) }
-    ensures ends { waits ≡ false → ends_at result.0 step.new.start ≡ map (λ c. BlockEnd step.new.start) (filter (λ c.
-        not (stays step.in_flow step.kind step.new.start c)) (reverse levels.old.items)) }
+        ≡ filter (stays met.in_flow met.kind met.new.start) (reverse levels.old.items))
+        × (reverse levels.new.items ≡ (if key && is_new met.in_flow met.new.start.column (reverse left)
+        then met.new.start.column ∷ [] else []) ++ reverse left)
+        × (result.1 ≡ (if key && is_new met.in_flow met.new.start.column (reverse left) then MAPPING else NONE)) }
+    ensures ends { waits ≡ false → ends_at result.0 met.new.start ≡ map (λ c. BlockEnd met.new.start) (filter (λ c.
+        not (stays met.in_flow met.kind met.new.start c)) (reverse levels.old.items)) }
     ensures few { result.0 ≤ length levels.old.items }
 {
     if waits {
         (0, block_t::NONE)
     } else {
-        lay_candidate(levels, step, key)
+        lay_candidate(levels, met, key)
     }
 }
 
@@ -277,21 +276,21 @@ fn lay_levels(levels: &mut Vec<u64>, step: step_t, key: bool, waits: bool) -> (u
 #[inline(always)]
 fn lay_both<const WAITS: bool>(
     state: &mut state_t,
-    step: step_t,
-    at: yaml_mark_t,
+    read: read_t,
     decider: &decider_t,
 ) -> (usize, block_t, bool)
     ghost before: { List Laid }
-    requires { (text : Text) × (x : Lexeme) × ((x.reach ≡ at) × CanLayAll before (scanner_of text state.old) step x)
+    requires { (text : Text) × (x : Lexeme) × ((x.reach ≡ read.reach)
+        × CanLayAll before (scanner_of text state.old) read.met x)
         × ((sparing : Bool)
-        × IsFollower (scanner_of text state.old) sparing step at WAITS decider.now.kind
+        × IsFollower (scanner_of text state.old) sparing read.met read.reach WAITS decider.now.kind
         (lexeme_of decider.now.lexeme)) }
     ensures laid { (text : Text) (sparing : Bool) (d : TokenData) (b e : yaml_mark_t) (passed : Bool)
         (t z : code_token_t)
-        → CanLayAll before (scanner_of text state.old) step (read_to d b e at passed)
-        → IsFollower (scanner_of text state.old) sparing step at WAITS decider.now.kind
-        (lexeme_of decider.now.lexeme) → IsTokenOf t d step.new.start e
-        → IsTokenOf z (lexeme_of decider.now.lexeme).token_data at
+        → CanLayAll before (scanner_of text state.old) read.met (read_to d b e read.reach passed)
+        → IsFollower (scanner_of text state.old) sparing read.met read.reach WAITS decider.now.kind
+        (lexeme_of decider.now.lexeme) → IsTokenOf t d read.met.new.start e
+        → IsTokenOf z (lexeme_of decider.now.lexeme).token_data read.reach
         (lexeme_of decider.now.lexeme).end_mark
         → LaysTwo (WAITS || sparing) before (scanner_of text state.old) (scanner_of text state.new)
         (groups_in (scanner_of text state.new)
@@ -301,10 +300,10 @@ fn lay_both<const WAITS: bool>(
     ensures few { result.0 ≤ length state.old.layout.levels.items }
 {
     let kind = decider.kind;
-    let key = is_key(step, WAITS, kind);
-    let (ends, opens) = lay_levels(&mut state.layout.levels, step, key, WAITS);
+    let key = is_key(read.met, WAITS, kind);
+    let (ends, opens) = lay_levels(&mut state.layout.levels, read.met, key, WAITS);
     state.slots.drop_candidate(kind, WAITS);
-    state.allowed = is_allowed_after(kind, step.in_flow, !key, false);
+    state.allowed = is_allowed_after(kind, read.met.in_flow, !key, false);
     state.reach = decider.lexeme.reach;
     (ends, opens, key)
 }
@@ -314,21 +313,21 @@ fn lay_both<const WAITS: bool>(
 #[inline(always)]
 pub(crate) fn lay_followed(
     state: &mut state_t,
-    step: step_t,
-    at: yaml_mark_t,
+    read: read_t,
     follower: &follower_t,
 ) -> (usize, block_t, bool)
     ghost before: { List Laid }
-    requires { (text : Text) × (x : Lexeme) × ((x.reach ≡ at) × CanLayAll before (scanner_of text state.old) step x)
+    requires { (text : Text) × (x : Lexeme) × ((x.reach ≡ read.reach)
+        × CanLayAll before (scanner_of text state.old) read.met x)
         × ((sparing : Bool)
-        × IsFollower (scanner_of text state.old) sparing step at follower.now.waits follower.now.decider.kind
-        (lexeme_of follower.now.decider.lexeme)) }
+        × IsFollower (scanner_of text state.old) sparing read.met read.reach follower.now.waits
+        follower.now.decider.kind (lexeme_of follower.now.decider.lexeme)) }
     ensures laid { (text : Text) (sparing : Bool) (d : TokenData) (b e : yaml_mark_t) (passed : Bool)
         (t z : code_token_t)
-        → CanLayAll before (scanner_of text state.old) step (read_to d b e at passed)
-        → IsFollower (scanner_of text state.old) sparing step at follower.now.waits follower.now.decider.kind
-        (lexeme_of follower.now.decider.lexeme) → IsTokenOf t d step.new.start e
-        → IsTokenOf z (lexeme_of follower.now.decider.lexeme).token_data at
+        → CanLayAll before (scanner_of text state.old) read.met (read_to d b e read.reach passed)
+        → IsFollower (scanner_of text state.old) sparing read.met read.reach follower.now.waits
+        follower.now.decider.kind (lexeme_of follower.now.decider.lexeme) → IsTokenOf t d read.met.new.start e
+        → IsTokenOf z (lexeme_of follower.now.decider.lexeme).token_data read.reach
         (lexeme_of follower.now.decider.lexeme).end_mark
         → LaysTwo (follower.now.waits || sparing) before (scanner_of text state.old) (scanner_of text state.new)
         (groups_in (scanner_of text state.new)
@@ -339,8 +338,8 @@ pub(crate) fn lay_followed(
 {
     // a copy for each, so that what differs is asked once
     if follower.waits {
-        lay_both::<true>(state, step, at, &follower.decider)
+        lay_both::<true>(state, read, &follower.decider)
     } else {
-        lay_both::<false>(state, step, at, &follower.decider)
+        lay_both::<false>(state, read, &follower.decider)
     }
 }

@@ -27,10 +27,10 @@ ghost use Rattle.yaml_scan.specs.inside.Stop.{fault_at};
 use crate::batch::{give_while_room, send_or_wait};
 use crate::near::{near_of, near_start};
 use crate::parser::yaml_parser_t;
-use crate::scanner::{new_state, state_t};
 use crate::session::session_t;
 use crate::settled::{is_settled, settle_head};
 use crate::sink::yaml_token_sink_t;
+use crate::state::{new_state, state_t};
 use crate::stop::stop_t;
 use std::alloc::Global;
 use yaml_text::{

@@ -1,12 +1,11 @@
-//! What the layout asks of a kind of lexeme, and what a step has met before it reads one.
+//! What the layout asks of a kind of lexeme.
 ghost use Rattle.std.specs.Prelude.{◌≡◌, true, ◌+◌, ◌<◌, ◌^◌};
 ghost use Rattle.std.specs.Option.{option_copied};
 ghost use Rattle.yaml_scan.specs.Kind.{is_candidate_kind, is_value, is_stream_end, closes_all};
 ghost use Rattle.yaml_scan.specs.Levels.{opens_level, stays};
 ghost use Rattle.yaml_scan.specs.Step.{end_of, problem_of, start_at};
 
-use crate::depth::candidate_t;
-use yaml_lexeme::{yaml_context_t, yaml_lexeme_kind_t};
+use yaml_lexeme::yaml_lexeme_kind_t;
 use yaml_text::yaml_mark_t;
 
 pub(crate) fn is_candidate_kind(kind: yaml_lexeme_kind_t) -> bool
@@ -113,17 +112,4 @@ pub(crate) fn start_after(kind: yaml_lexeme_kind_t, gap_end: yaml_mark_t) -> yam
     } else {
         gap_end
     }
-}
-
-/// What a lexeme is read and laid with.
-#[derive(Clone, Copy)]
-pub(crate) struct step_t {
-    pub kind: yaml_lexeme_kind_t,
-    /// Whether it is inside a flow collection.
-    pub in_flow: bool,
-    /// Whether a key is allowed there.
-    pub allowed: bool,
-    /// What is kept of the lexeme, if it is a candidate. Its start is that of the lexeme, of whatever kind.
-    pub new: candidate_t,
-    pub context: yaml_context_t,
 }

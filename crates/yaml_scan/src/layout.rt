@@ -1,406 +1,73 @@
-//! The layout: of a lexeme that was read it makes a group, which is handed on, unless the step has to stop.
-ghost use Rattle.std.specs.Prelude.{◌≡◌, ◌<◌, ◌++◌, ◌∷◌, List, [], false, length, ℕ, ◌≤◌};
-ghost use Rattle.std.specs.Prelude.{◌||◌, not, IfOk, MatchResult, None, OnOk};
+//! The layout: the open levels and the queue. A key may open a level and mark a group of the queue.
+ghost use Rattle.std.specs.Prelude.{◌≡◌, ◌+◌, ◌-◌, ◌<◌, ◌≤◌, ◌&&◌, ◌++◌, ◌∷◌, [], true, false, not, reverse, map};
+ghost use Rattle.std.specs.Prelude.{filter, length, vec_len, nat_lt, None, Some, if◌then◌else◌};
+ghost use Rattle.std.specs.Vec.{vec_capacity};
 ghost use Rattle.std.specs.VecDeque.{deque_capacity};
-ghost use Rattle.yaml_text.specs.declared.token.yaml_token_t.{yaml_token_t as code_token_t};
-ghost use Rattle.yaml_text.specs.declared.types.yaml_mark_t.{yaml_mark_t};
-ghost use Rattle.yaml_text.specs.Token.{TokenData, data_of, token_of};
-ghost use Rattle.yaml_text.specs.Text.{Text};
-ghost use Rattle.yaml_lexeme.specs.Lexeme.{Lexeme};
-ghost use Rattle.yaml_lexeme.specs.LexemeOf.{lexeme_of};
-ghost use Rattle.yaml_lexeme.specs.Counted.{IsMarkOf};
+ghost use Rattle.yaml_scan.specs.declared.groups.block_t.TheVariants.{NONE};
 ghost use Rattle.yaml_scan.specs.Kind.{is_stream_end};
-ghost use Rattle.yaml_scan.specs.Laid.{Laid};
-ghost use Rattle.yaml_scan.specs.inside.Handed.{IsLaidAs, IsReadTo, IsTokenOf, group_with, read_to, FindsRoom};
-ghost use Rattle.yaml_scan.specs.inside.Handed.{IsLaidAlone, LaysTo, StepsTo, WasLaid, group_tokens};
-ghost use Rattle.yaml_scan.specs.inside.Scanner.{scanner_of, Scanner};
-ghost use Rattle.yaml_scan.specs.inside.Scanning.{CanPut, HasRoom, groups_in, met_in, CanLayAll, CanRead, IsReadIn};
-ghost use Rattle.yaml_scan.specs.inside.Scanning.{IsStep, Refuses};
-ghost use Rattle.yaml_scan.specs.Sink.{said_len};
-ghost use Rattle.yaml_scan.specs.declared.groups.group_t.{group_t};
-ghost use Rattle.yaml_scan.specs.inside.TextReads.{IsRead};
+ghost use Rattle.yaml_scan.specs.Levels.{stays, greatest_level, opens_level};
+ghost use Rattle.yaml_scan.specs.Falling.{IsFalling};
+ghost use Rattle.yaml_scan.specs.Groups.{end_at};
+ghost use Rattle.yaml_scan.specs.Groups.Token.{BlockEnd};
+ghost use Rattle.yaml_scan.specs.inside.Opened.{is_new, opened};
+ghost use Rattle.yaml_scan.specs.inside.Queue.{ends_at, closing, completed_in, opened_by, start_of, Fitting, KeepsRest};
+ghost use Rattle.yaml_scan.specs.inside.Slots.{is_level};
 
-use crate::allowed::is_allowed_after;
-use crate::follower::{follower_of, lay_followed};
-use crate::groups::{block_t, group_t};
-use crate::keys::{completed_by, is_lost};
-use crate::kind::{is_stream_end, step_t};
-use crate::levels::close_levels;
-use crate::scanner::state_t;
-use crate::sink::{
-    hand_keyless, hand_on, hand_token, has_room_for_both, has_room_for_laid, no_sink_t, said_len,
-    yaml_token_sink_t,
-};
-use crate::stop::{stop_after, stop_in_lexeme, stop_t, stopped};
-use yaml_lexeme::{yaml_lexeme_kind_t, yaml_lexeme_t, yaml_refusal_t};
-use yaml_text::{yaml_mark_t, yaml_text_t, yaml_token_t};
+use crate::groups::block_t;
+use crate::keys::candidate_t;
+use crate::levels::{is_new_level, open_block, open_level};
+use crate::met::met_t;
+use crate::queue::queue_t;
 
-/// The token of a lexeme that starts at a mark.
-#[inline(always)]
-pub(crate) fn token_of(start: yaml_mark_t, lexeme: yaml_lexeme_t) -> yaml_token_t
-    ensures { token_of result ≡ record {
-      token_data = data_of lexeme.token_data;
-      start_mark = start;
-      end_mark = lexeme.end_mark;
-    } }
-{
-    yaml_token_t {
-        token_data: lexeme.token_data,
-        start_mark: start,
-        end_mark: lexeme.end_mark,
-    }
-}
-
-/// Lays the lexeme of a step, which was read to a mark: changes levels and candidates, and marks the group that it
-/// completes. Returns how many levels end at its token, and what it opens. Its group then goes into the queue or is
-/// handed out. There is room, and no candidate is lost.
-#[inline(always)]
-pub(crate) fn lay_lexeme(
-    state: &mut state_t,
-    step: step_t,
-    reach: yaml_mark_t,
-    passed_break: bool,
-) -> (usize, block_t)
-    ghost before: { List Laid }
-    requires can { (text : Text) × (x : Lexeme) × (IsReadTo x reach passed_break × CanPut before
-        (scanner_of text state.old) (groups_in (scanner_of text state.old))
-        (met_in (scanner_of text state.old) step) step.in_flow step.new x) }
-    requires room { (text : Text) × HasRoom (scanner_of text state.old) step.in_flow step.kind }
-    ensures laid { (text : Text) (d : TokenData) (b e : yaml_mark_t) (t : code_token_t)
-        → CanPut before (scanner_of text state.old) (groups_in (scanner_of text state.old))
-        (met_in (scanner_of text state.old) step) step.in_flow step.new
-        (read_to d b e reach passed_break) → IsTokenOf t d step.new.start e
-        → IsLaidAs before (scanner_of text state.old) step.kind (scanner_of text state.new)
-        (groups_in (scanner_of text state.new) ++ group_with result.0 result.1 false t ∷ []) }
-    ensures reach { state.new.reach ≡ reach }
-    ensures room { length state.new.layout.queue.groups.items < deque_capacity state.new.layout.queue.groups }
-{
-    let kind = step.kind;
-    let gap_end = state.gap_end;
-    let start = step.new.start;
-    let closed = close_levels(&mut state.layout.levels, step, gap_end);
-    let completed = completed_by(kind, state.slots.top, state.limit, start);
-    state.slots.keep_candidates(step, state.limit, reach);
-    let opens = state.layout.put_key(step, completed);
-    state.layout.queue.keep_early(closed.early, gap_end);
-    state.allowed = is_allowed_after(kind, step.in_flow, completed.is_none(), passed_break);
-    state.reach = reach;
-    (closed.ends, opens)
-}
-
-/// What a step has laid, and has not handed on yet. Its token goes with it.
+/// The open levels, the greatest last, and the queue.
 #[derive(Drop)]
-pub(crate) struct laid_t {
-    /// How many block ends its group hands out.
-    pub ends: usize,
-    /// The start of a block collection that its group hands out, or none.
-    pub opens: block_t,
-    /// Whether its group hands out a key.
-    pub key: bool,
-    /// Whether all of it has to wait in the queue.
-    pub waits: bool,
-    /// The token of what comes right after its lexeme, if that was laid too.
-    pub decider: Option<yaml_token_t>,
+pub(crate) struct layout_t {
+    pub levels: Vec<u64>,
+    pub queue: queue_t,
 }
 
-/// Whether the group of a lexeme of a kind that was laid has to wait: the stream end always does, and any other if
-/// groups before it do, if a candidate may yet become a key, or if the sink has no room for it. It hands out so many
-/// block ends and opens that, and its texts have so many bytes.
-#[inline(always)]
-fn has_to_wait<S: yaml_token_sink_t>(
-    state: &state_t,
-    sink: &S,
-    kind: yaml_lexeme_kind_t,
-    ends: usize,
-    opens: block_t,
-    texts: u128,
-) -> bool
-    ensures last { result ≡ false → is_stream_end kind ≡ false }
-    ensures awaited { result ≡ false → state.now.slots.awaited ≡ 0 }
-    ensures lone { result ≡ false → state.now.layout.queue.groups.items ≡ [] }
-    ensures room { result ≡ false → S.within sink.now → (group : group_t) (after : S) → group.ends ≡ ends
-        → group.opens ≡ opens → group.key ≡ false → said_len (token_of group.token).token_data ≤ texts
-        → S.took sink.now (group_tokens group) after → S.within after }
-{
-    is_stream_end(kind)
-        || state.slots.awaited > 0
-        || !state.layout.queue.groups.is_empty()
-        || !has_room_for_laid(sink, ends, opens, texts)
-}
+impl layout_t {
+    /// Completes a candidate. Outside flow there is room for a level.
+    #[inline(always)]
+    fn complete(&mut self, in_flow: bool, held: candidate_t)
+        requires falls { IsFalling (reverse self.old.levels.items) }
+        requires fits { Fitting (Some held) self.old.queue.done self.old.queue.groups.items }
+        requires room { in_flow ≡ false → vec_len self.old.levels < vec_capacity self.old.levels }
+        ensures levels { reverse self.new.levels.items
+            ≡ (if is_new in_flow held.start.column (reverse self.old.levels.items) then held.start.column ∷ [] else [])
+            ++ reverse self.old.levels.items }
+        ensures groups { self.new.queue.groups.items
+            ≡ completed_in in_flow (Some held) (reverse self.old.levels.items) self.old.queue.done
+            self.old.queue.groups.items }
+        ensures rest { KeepsRest self.old.queue self.new.queue }
+    {
+        let opens = is_new_level(&self.levels, in_flow, held.start.column);
+        let at = (held.step - 1 - self.queue.done) as usize;
+        self.queue.mark_key(at, opens);
+        open_level(&mut self.levels, opens, held.start.column);
+    }
 
-/// Lays the lexeme of a step, which was read to a mark, and whose texts have so many bytes. Returns how many block ends
-/// its group hands out, what that opens, and whether it has to wait.
-#[inline(always)]
-fn lay_alone<S: yaml_token_sink_t>(
-    state: &mut state_t,
-    sink: &S,
-    step: step_t,
-    reach: yaml_mark_t,
-    passed_break: bool,
-    texts: u128,
-) -> (usize, block_t, bool)
-    ghost before: { List Laid }
-    requires { (text : Text) × (x : Lexeme) × (IsReadTo x reach passed_break
-        × CanLayAll before (scanner_of text state.old) step x) }
-    ensures laid { (text : Text) (d : TokenData) (b e : yaml_mark_t) (t : code_token_t)
-        → CanLayAll before (scanner_of text state.old) step (read_to d b e reach passed_break)
-        → IsTokenOf t d step.new.start e
-        → IsLaidAlone before (scanner_of text state.old) (scanner_of text state.new) step.kind result.2
-        (group_with result.0 result.1 false t) }
-    ensures room { result.2 ≡ false → S.within sink.now → (t : code_token_t) → said_len (token_of t).token_data ≤ texts
-        → (after : S) → S.took sink.now (group_tokens (group_with result.0 result.1 false t)) after → S.within after }
-{
-    let (ends, opens) = lay_lexeme(state, step, reach, passed_break);
-    let waits = has_to_wait(state, sink, step.kind, ends, opens, texts);
-    (ends, opens, waits)
-}
-
-/// Whether what was laid together goes through the queue: it has to wait there, or it does not go straight to the sink.
-#[inline(always)]
-fn is_queued(waits: bool, direct: bool) -> bool
-    ensures { result ≡ (waits || not direct) }
-{
-    waits || !direct
-}
-
-/// Lays the lexeme of a step, which was read to a mark, and with it what comes right after it, if the next token needs
-/// both. Its texts have so many bytes.
-#[inline(always)]
-fn lay_all<const DIRECT: bool, S: yaml_token_sink_t>(
-    text: &yaml_text_t,
-    state: &mut state_t,
-    sink: &S,
-    step: step_t,
-    reach: yaml_mark_t,
-    passed_break: bool,
-    texts: u128,
-) -> laid_t
-    ghost before: { List Laid }
-    requires { (x : Lexeme) × (IsReadTo x reach passed_break × CanLayAll before
-        (scanner_of text.now state.old) step x) }
-    ensures laid { (d : TokenData) (b e : yaml_mark_t) (t : code_token_t)
-        → CanLayAll before (scanner_of text.now state.old) step (read_to d b e reach passed_break)
-        → IsTokenOf t d step.new.start e
-        → WasLaid before (scanner_of text.now state.old) (scanner_of text.now state.new) DIRECT result t }
-    ensures room { FindsRoom result texts (S.within sink.now) (λ tokens. (after : S) → S.took sink.now tokens after
-        → S.within after) }
-{
-    let direct = has_room_for_both::<DIRECT, S>(sink, &state.layout.levels, texts);
-    match follower_of(text, state, !direct, step, reach) {
-        Some(follower) => {
-            let (ends, opens, key) = lay_followed(state, step, reach, &follower);
-            laid_t {
-                ends,
-                opens,
-                key,
-                waits: is_queued(follower.waits, direct),
-                decider: Some(token_of(reach, follower.decider.lexeme)),
+    /// Completes a candidate, or opens a level at the lexeme of a step. Outside flow there is room for one.
+    #[inline(always)]
+    pub(crate) fn put_key(&mut self, met: met_t, completed: Option<candidate_t>) -> block_t
+        requires falls { IsFalling (reverse self.old.levels.items) }
+        requires fits { Fitting completed self.old.queue.done self.old.queue.groups.items }
+        requires room { met.in_flow ≡ false → vec_len self.old.levels < vec_capacity self.old.levels }
+        ensures levels { reverse self.new.levels.items
+            ≡ opened met.in_flow completed met.kind met.new.start (reverse self.old.levels.items) }
+        ensures groups { self.new.queue.groups.items
+            ≡ completed_in met.in_flow completed (reverse self.old.levels.items) self.old.queue.done
+            self.old.queue.groups.items }
+        ensures opens { result
+            ≡ opened_by met.in_flow completed met.kind met.new.start.column (reverse self.old.levels.items) }
+        ensures rest { KeepsRest self.old.queue self.new.queue }
+    {
+        match completed {
+            Some(held) => {
+                self.complete(met.in_flow, held);
+                block_t::NONE
             }
-        }
-        None => {
-            let (ends, opens, waits) = lay_alone(state, sink, step, reach, passed_break, texts);
-            laid_t {
-                ends,
-                opens,
-                key: false,
-                waits,
-                decider: None,
-            }
+            None => open_block(&mut self.levels, met),
         }
     }
-}
-
-/// Stops if the lexeme of a step, which was read, reaches near the reader's fault, or if a candidate is lost there.
-#[inline(always)]
-fn check_reach(
-    text: &yaml_text_t,
-    state: &mut state_t,
-    step: step_t,
-    lexeme: &yaml_lexeme_t,
-) -> Result<(), stop_t>
-    ghost before: { List Laid }
-    requires { CanRead before (scanner_of text.now state.old) step
-        × ((p : ℕ) → IsMarkOf text.now.chars state.old.gap_end p
-        → IsRead text.now.chars step.kind step.context.depth step.context.level p (lexeme_of lexeme.now)) }
-    ensures { MatchResult result
-        (λ _. (state.new ≡ state.old) × CanLayAll before (scanner_of text.now state.old) step (lexeme_of lexeme.now))
-        (λ stop. Refuses before (scanner_of text.now state.old) (scanner_of text.now state.new) stop) }
-{
-    let reach = lexeme.reach;
-    let lost = is_lost(state.root_after(step), step.in_flow, state.limit, reach);
-    if state.near <= reach.index || lost {
-        state.there = reach;
-        return Err(stop_after(text, state, step.in_flow, step.kind, step.allowed));
-    }
-    Ok(())
-}
-
-/// Ends a step with a lexeme that was read: one character, a document marker or the stream end. What comes right after
-/// it is not asked for. Stops if it is near the reader's fault, or a candidate is lost.
-#[inline(always)]
-pub(crate) fn end_character<const DIRECT: bool, S: yaml_token_sink_t>(
-    text: &yaml_text_t,
-    state: &mut state_t,
-    sink: &mut S,
-    step: step_t,
-    lexeme: yaml_lexeme_t,
-) -> Result<(), stop_t>
-    ghost before: { List Laid }
-    requires { CanRead before (scanner_of text.now state.old) step
-        × ((p : ℕ) → IsMarkOf text.now.chars state.old.gap_end p
-        → IsRead text.now.chars step.kind step.context.depth step.context.level p (lexeme_of lexeme)) }
-    ensures steps { StepsTo before (scanner_of text.now state.old) (scanner_of text.now state.new) DIRECT
-        (λ tokens. S.took sink.old tokens sink.new)
-        S.may_refuse result }
-    ensures within { OnOk result (S.within sink.old → S.within sink.new) }
-{
-    match check_reach(text, state, step, &lexeme) {
-        Ok(_) => {
-            let texts = said_len(&lexeme.token_data);
-            let reach = lexeme.reach;
-            let passed_break = lexeme.passed_break;
-            let (ends, opens, waits) = lay_alone(state, sink, step, reach, passed_break, texts);
-            let group = group_t {
-                ends,
-                opens,
-                key: false,
-                token: token_of(step.new.start, lexeme),
-            };
-            match hand_keyless::<DIRECT, S>(state, sink, waits, group) {
-                Ok(_) => {
-                    state.made += 1;
-                    Ok(())
-                }
-                Err(stop) => Err(stopped(stop)),
-            }
-        }
-        Err(stop) => Err(stopped(stop)),
-    }
-}
-
-/// Lays what was read for a step. Returns what was laid, and its token. Stops if it was refused, if it is near the
-/// reader's fault, or if a candidate is lost.
-#[inline(always)]
-pub(crate) fn lay_read<const DIRECT: bool, S: yaml_token_sink_t>(
-    text: &yaml_text_t,
-    state: &mut state_t,
-    sink: &S,
-    step: step_t,
-    read: Result<yaml_lexeme_t, yaml_refusal_t>,
-) -> Result<(laid_t, yaml_token_t), stop_t>
-    ghost before: { List Laid }
-    requires { CanRead before (scanner_of text.now state.old) step
-        × IsReadIn (scanner_of text.now state.old) step.kind step.context state.old.there read }
-    ensures laid { MatchResult result (λ r. WasLaid before (scanner_of text.now state.old)
-        (scanner_of text.now state.new) DIRECT r.0 r.1)
-        (λ stop. Refuses before (scanner_of text.now state.old) (scanner_of text.now state.new) stop) }
-    ensures room { IfOk result (λ r. FindsRoom r.0 (said_len (data_of r.1.token_data)) (S.within sink.now) (λ tokens.
-        (after : S) → S.took sink.now tokens after → S.within after)) }
-{
-    match read {
-        Ok(lexeme) => match check_reach(text, state, step, &lexeme) {
-            Ok(_) => {
-                let texts = said_len(&lexeme.token_data);
-                let laid = lay_all::<DIRECT, S>(
-                    text,
-                    state,
-                    sink,
-                    step,
-                    lexeme.reach,
-                    lexeme.passed_break,
-                    texts,
-                );
-                Ok((laid, token_of(step.new.start, lexeme)))
-            }
-            Err(stop) => Err(stopped(stop)),
-        },
-        Err(refusal) => Err(stop_in_lexeme(text, state, step.kind, refusal)),
-    }
-}
-
-/// Hands on what a step has laid, with its token. Returns how many steps that makes.
-#[inline(always)]
-fn hand_laid<const DIRECT: bool, S: yaml_token_sink_t>(
-    state: &mut state_t,
-    sink: &mut S,
-    laid: laid_t,
-    token: yaml_token_t,
-) -> Result<u64, stop_t>
-    requires laid { (text : Text) × (before : List Laid) × ((start : Scanner) × WasLaid before start
-        (scanner_of text state.old) DIRECT laid token) }
-    requires room { FindsRoom laid (said_len (data_of token.token_data)) (S.within sink.old) (λ tokens. (after : S)
-        → S.took sink.old tokens after → S.within after) }
-    ensures steps { (text : Text) (before : List Laid) (start : Scanner) → WasLaid before start
-        (scanner_of text state.old) DIRECT laid token
-        → LaysTo before start (scanner_of text state.new) DIRECT (λ tokens. S.took sink.old tokens sink.new)
-        S.may_refuse result }
-    ensures within { OnOk result (S.within sink.old → S.within sink.new) }
-{
-    let laid_t {
-        ends,
-        opens,
-        key,
-        waits,
-        decider,
-    } = laid;
-    let group = group_t {
-        ends,
-        opens,
-        key,
-        token,
-    };
-    match hand_on::<DIRECT, S>(state, sink, waits, group) {
-        Ok(_) => match decider {
-            Some(second) => match hand_token::<DIRECT, S>(state, sink, waits, second) {
-                Ok(_) => Ok(2),
-                Err(stop) => Err(stopped(stop)),
-            },
-            None => Ok(1),
-        },
-        Err(stop) => Err(stopped(stop)),
-    }
-}
-
-/// Ends a step with what it has laid, and hands that on, with its token.
-#[inline(always)]
-pub(crate) fn end_laid<const DIRECT: bool, S: yaml_token_sink_t>(
-    state: &mut state_t,
-    sink: &mut S,
-    laid: laid_t,
-    token: yaml_token_t,
-) -> Result<(), stop_t>
-    requires laid { (text : Text) × (before : List Laid) × ((start : Scanner) × WasLaid before start
-        (scanner_of text state.old) DIRECT laid token) }
-    requires room { FindsRoom laid (said_len (data_of token.token_data)) (S.within sink.old) (λ tokens. (after : S)
-        → S.took sink.old tokens after → S.within after) }
-    ensures steps { (text : Text) (before : List Laid) (start : Scanner) → WasLaid before start
-        (scanner_of text state.old) DIRECT laid token
-        → StepsTo before start (scanner_of text state.new) DIRECT (λ tokens. S.took sink.old tokens sink.new)
-        S.may_refuse result }
-    ensures within { OnOk result (S.within sink.old → S.within sink.new) }
-{
-    match hand_laid::<DIRECT, S>(state, sink, laid, token) {
-        Ok(made) => {
-            state.made += made;
-            Ok(())
-        }
-        Err(stop) => Err(stopped(stop)),
-    }
-}
-
-/// Ends a step with a lexeme that was read and needs nothing of what comes after it. Its group goes into the queue.
-#[inline(always)]
-pub(crate) fn end_queued(
-    text: &yaml_text_t,
-    state: &mut state_t,
-    step: step_t,
-    lexeme: yaml_lexeme_t,
-) -> Result<(), stop_t>
-    ghost before: { List Laid }
-    requires { CanRead before (scanner_of text.now state.old) step
-        × ((p : ℕ) → IsMarkOf text.now.chars state.old.gap_end p
-        → IsRead text.now.chars step.kind step.context.depth step.context.level p (lexeme_of lexeme)) }
-    ensures { IsStep before (scanner_of text.now state.old) (scanner_of text.now state.new) result }
-{
-    end_character::<false, no_sink_t>(text, state, &mut no_sink_t {}, step, lexeme)
 }

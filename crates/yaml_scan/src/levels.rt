@@ -1,5 +1,4 @@
-//! Indentation levels: the columns of the block collections that are open (YAML 1.1, 6.1 Indentation Spaces). A key
-//! may open one and mark a group of the queue, so the type that has both is here.
+//! Indentation levels: the columns of the block collections that are open (YAML 1.1, 6.1 Indentation Spaces).
 ghost use Rattle.std.specs.Prelude.{◌≡◌, ◌+◌, ◌-◌, ◌<◌, ◌≤◌, ◌&&◌, ◌++◌, ◌∷◌, [], true, false, not, reverse, map};
 ghost use Rattle.std.specs.Prelude.{filter, length, vec_len, nat_lt, None, Some, if◌then◌else◌};
 ghost use Rattle.std.specs.Vec.{vec_capacity};
@@ -11,13 +10,12 @@ ghost use Rattle.yaml_scan.specs.Falling.{IsFalling};
 ghost use Rattle.yaml_scan.specs.Groups.{end_at};
 ghost use Rattle.yaml_scan.specs.Groups.Token.{BlockEnd};
 ghost use Rattle.yaml_scan.specs.inside.Opened.{is_new, opened};
-ghost use Rattle.yaml_scan.specs.inside.Queue.{ends_at, closing, completed_in, opened_by, start_of, Fitting};
-ghost use Rattle.yaml_scan.specs.inside.Queue.{KeepsRest};
+ghost use Rattle.yaml_scan.specs.inside.Queue.{ends_at, closing, completed_in, opened_by, start_of, Fitting, KeepsRest};
 ghost use Rattle.yaml_scan.specs.inside.Slots.{is_level};
 
-use crate::depth::candidate_t;
-use crate::groups::{block_t, queue_t};
-use crate::kind::{is_opener_kind, is_stream_end, stays_open, step_t};
+use crate::groups::block_t;
+use crate::kind::{is_opener_kind, is_stream_end, stays_open};
+use crate::met::met_t;
 use yaml_lexeme::yaml_lexeme_kind_t;
 use yaml_text::yaml_mark_t;
 
@@ -61,22 +59,22 @@ pub(crate) struct closed_t {
 
 /// Closes the levels that the lexeme of a step does not keep, greatest first. The gap before it ends at `gap_end`.
 #[inline(always)]
-pub(crate) fn close_levels(levels: &mut Vec<u64>, step: step_t, gap_end: yaml_mark_t) -> closed_t
+pub(crate) fn close_levels(levels: &mut Vec<u64>, met: met_t, gap_end: yaml_mark_t) -> closed_t
     requires { IsFalling (reverse levels.old.items) }
     ensures levels { reverse levels.new.items
-        ≡ filter (stays step.in_flow step.kind step.new.start) (reverse levels.old.items) }
-    ensures ends { ends_at result.early gap_end ++ ends_at result.ends step.new.start
-        ≡ map (λ c. BlockEnd (end_at step.kind gap_end step.new.start c)) (filter (λ c.
-        not (stays step.in_flow step.kind step.new.start c)) (reverse levels.old.items)) }
-    ensures none { is_stream_end step.kind ≡ false → result.early ≡ 0 }
+        ≡ filter (stays met.in_flow met.kind met.new.start) (reverse levels.old.items) }
+    ensures ends { ends_at result.early gap_end ++ ends_at result.ends met.new.start
+        ≡ map (λ c. BlockEnd (end_at met.kind gap_end met.new.start c)) (filter (λ c.
+        not (stays met.in_flow met.kind met.new.start c)) (reverse levels.old.items)) }
+    ensures none { is_stream_end met.kind ≡ false → result.early ≡ 0 }
     ensures len { vec_len levels.new ≤ vec_len levels.old }
     ensures capacity { vec_capacity levels.new ≡ vec_capacity levels.old }
 {
     let mut early = 0;
     let mut ends = 0;
-    while let Some(last) = closing(levels, step.in_flow, step.kind, step.new.start) {
+    while let Some(last) = closing(levels, met.in_flow, met.kind, met.new.start) {
         levels.pop();
-        if ends_early(step.kind, gap_end, last) {
+        if ends_early(met.kind, gap_end, last) {
             early += 1;
         } else {
             ends += 1;
@@ -174,68 +172,15 @@ pub(crate) fn block_start(opens: bool, kind: yaml_lexeme_kind_t) -> block_t
 
 /// Opens a level at the lexeme of a step, which completes nothing, if it does. Outside flow there is room for one.
 #[inline(always)]
-fn open_block(levels: &mut Vec<u64>, step: step_t) -> block_t
+pub(crate) fn open_block(levels: &mut Vec<u64>, met: met_t) -> block_t
     requires falls { IsFalling (reverse levels.old.items) }
-    requires room { step.in_flow ≡ false → vec_len levels.old < vec_capacity levels.old }
+    requires room { met.in_flow ≡ false → vec_len levels.old < vec_capacity levels.old }
     ensures levels { reverse levels.new.items
-        ≡ opened step.in_flow None step.kind step.new.start (reverse levels.old.items) }
-    ensures opens { result ≡ opened_by step.in_flow None step.kind step.new.start.column (reverse levels.old.items) }
+        ≡ opened met.in_flow None met.kind met.new.start (reverse levels.old.items) }
+    ensures opens { result ≡ opened_by met.in_flow None met.kind met.new.start.column (reverse levels.old.items) }
 {
-    let column = step.new.start.column;
-    let opens = opens_at(levels, step.in_flow, step.kind, column);
+    let column = met.new.start.column;
+    let opens = opens_at(levels, met.in_flow, met.kind, column);
     open_level(levels, opens, column);
-    block_start(opens, step.kind)
-}
-
-/// The open levels, the greatest last, and the queue.
-#[derive(Drop)]
-pub(crate) struct layout_t {
-    pub levels: Vec<u64>,
-    pub queue: queue_t,
-}
-
-impl layout_t {
-    /// Completes a candidate. Outside flow there is room for a level.
-    #[inline(always)]
-    fn complete(&mut self, in_flow: bool, held: candidate_t)
-        requires falls { IsFalling (reverse self.old.levels.items) }
-        requires fits { Fitting (Some held) self.old.queue.done self.old.queue.groups.items }
-        requires room { in_flow ≡ false → vec_len self.old.levels < vec_capacity self.old.levels }
-        ensures levels { reverse self.new.levels.items
-            ≡ (if is_new in_flow held.start.column (reverse self.old.levels.items) then held.start.column ∷ [] else [])
-            ++ reverse self.old.levels.items }
-        ensures groups { self.new.queue.groups.items
-            ≡ completed_in in_flow (Some held) (reverse self.old.levels.items) self.old.queue.done
-            self.old.queue.groups.items }
-        ensures rest { KeepsRest self.old.queue self.new.queue }
-    {
-        let opens = is_new_level(&self.levels, in_flow, held.start.column);
-        let at = (held.step - 1 - self.queue.done) as usize;
-        self.queue.mark_key(at, opens);
-        open_level(&mut self.levels, opens, held.start.column);
-    }
-
-    /// Completes a candidate, or opens a level at the lexeme of a step. Outside flow there is room for one.
-    #[inline(always)]
-    pub(crate) fn put_key(&mut self, step: step_t, completed: Option<candidate_t>) -> block_t
-        requires falls { IsFalling (reverse self.old.levels.items) }
-        requires fits { Fitting completed self.old.queue.done self.old.queue.groups.items }
-        requires room { step.in_flow ≡ false → vec_len self.old.levels < vec_capacity self.old.levels }
-        ensures levels { reverse self.new.levels.items
-            ≡ opened step.in_flow completed step.kind step.new.start (reverse self.old.levels.items) }
-        ensures groups { self.new.queue.groups.items
-            ≡ completed_in step.in_flow completed (reverse self.old.levels.items) self.old.queue.done
-            self.old.queue.groups.items }
-        ensures opens { result
-            ≡ opened_by step.in_flow completed step.kind step.new.start.column (reverse self.old.levels.items) }
-        ensures rest { KeepsRest self.old.queue self.new.queue }
-    {
-        match completed {
-            Some(held) => {
-                self.complete(step.in_flow, held);
-                block_t::NONE
-            }
-            None => open_block(&mut self.levels, step),
-        }
-    }
+    block_start(opens, met.kind)
 }

@@ -4,6 +4,7 @@
 mod allowed;
 mod batch;
 mod calls;
+mod decider;
 mod depth;
 mod follower;
 mod give;
@@ -11,18 +12,23 @@ mod groups;
 mod kept;
 mod keys;
 mod kind;
+mod laid;
 pub mod laws;
 mod layout;
 mod levels;
+mod met;
 mod near;
 mod parser;
-mod scanner;
+mod queue;
+mod read;
 mod session;
 mod settled;
 mod sink;
 #[cfg(test)]
 mod slot_tests;
+mod slots;
 mod source;
+mod state;
 mod step;
 mod stop;
 

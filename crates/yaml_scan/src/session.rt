@@ -13,7 +13,7 @@ ghost use Rattle.yaml_scan.specs.inside.Scanning.{IsRunning, history};
 ghost use Rattle.yaml_scan.specs.inside.KeptParts.{HasSettled, ShowsTo, Takes, shown_in};
 ghost use Rattle.yaml_scan.specs.inside.Stop.{fault_at};
 
-use crate::scanner::state_t;
+use crate::state::state_t;
 use crate::stop::{fault_at, stop_t};
 use yaml_text::{unnamed_yaml_token_t_data, yaml_fault_t, yaml_token_t};
 

@@ -13,7 +13,7 @@ ghost use Rattle.yaml_scan.specs.inside.Scanning.{Fails, Settles};
 ghost use Rattle.yaml_scan.specs.inside.Scanning.{Stops, history};
 
 use crate::follower::is_awaited;
-use crate::scanner::state_t;
+use crate::state::state_t;
 use crate::step::step;
 use crate::stop::stop_t;
 use yaml_text::yaml_text_t;

@@ -14,7 +14,7 @@ ghost use Rattle.yaml_scan.specs.inside.Handed.{Gives, IsHandedOn, group_tokens,
 ghost use Rattle.yaml_scan.specs.inside.Scanner.{scanner_of};
 
 use crate::groups::{block_t, group_t, token_at};
-use crate::scanner::state_t;
+use crate::state::state_t;
 use crate::stop::{stop_by_sink, stop_t, stopped};
 use std::alloc::{AllocError, Global};
 use yaml_text::{unnamed_yaml_token_t_data, yaml_mark_t, yaml_token_t};

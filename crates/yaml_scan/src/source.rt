@@ -3,16 +3,15 @@ ghost use Rattle.std.specs.Prelude.{◌≡◌, ℕ, ◌≤◌, Bool, Option, Som
 ghost use Rattle.yaml_lexeme.specs.KindSets.{is_character, marker_kind};
 ghost use Rattle.yaml_lexeme.specs.LexemeOf.{lexeme_of};
 ghost use Rattle.yaml_lexeme.specs.Counted.{IsMarkOf};
-ghost use Rattle.yaml_lexeme.specs.Decider.{one_on};
 ghost use Rattle.yaml_lexeme.specs.declared.kind.yaml_lexeme_kind_t.TheVariants.{STREAM_END};
 ghost use Rattle.yaml_scan.specs.SourceOf.{source_of};
 ghost use Rattle.yaml_scan.specs.inside.Scanner.{scanner_of};
 ghost use Rattle.yaml_scan.specs.inside.Scanning.{HasRead};
-ghost use Rattle.yaml_scan.specs.inside.TextReads.{IsDecider, IsRead};
+ghost use Rattle.yaml_scan.specs.inside.TextReads.{IsRead};
 
-use crate::scanner::state_t;
+use crate::state::state_t;
 use yaml_lexeme::{
-    yaml_context_t, yaml_decider_at, yaml_gap, yaml_lexeme_kind, yaml_lexeme_kind_t, yaml_lexeme_t,
+    yaml_context_t, yaml_gap, yaml_lexeme_kind, yaml_lexeme_kind_t, yaml_lexeme_t,
     yaml_read_character, yaml_read_marker, yaml_read_stream_end, yaml_reader_t, yaml_refusal_t,
     yaml_spot_t,
 };
@@ -45,31 +44,6 @@ pub(crate) fn kind_at(
     ensures { (p : ℕ) → IsMarkOf text.now.chars at p → result ≡ (source_of text.now.chars).kind in_flow p }
 {
     yaml_lexeme_kind(text, at, in_flow)
-}
-
-/// What comes right after a lexeme, and decides whether a candidate there is a key.
-#[derive(Drop)]
-pub(crate) struct decider_t {
-    pub kind: yaml_lexeme_kind_t,
-    pub lexeme: yaml_lexeme_t,
-}
-
-/// What decides at a mark whether a candidate that ends there is a key, if such a lexeme is right there. It is one
-/// character of ASCII.
-#[inline(always)]
-pub(crate) fn decider_at(text: &yaml_text_t, at: yaml_mark_t, in_flow: bool) -> Option<decider_t>
-    requires { (p : ℕ) × IsMarkOf text.now.chars at p }
-    ensures decides { IfSome result (λ d. (p : ℕ) → IsMarkOf text.now.chars at p
-        → IsDecider text.now.chars in_flow p d.kind (lexeme_of d.lexeme)) }
-    ensures reach { IfSome result (λ d. (lexeme_of d.lexeme).reach ≡ one_on at) }
-{
-    match yaml_decider_at(text, at, in_flow) {
-        Some(kind) => Some(decider_t {
-            kind,
-            lexeme: yaml_read_character(text, at, kind),
-        }),
-        None => None,
-    }
 }
 
 /// The lexeme of a reader's kind after the gap, or why it is refused. The value of a scalar is put into `room` if it

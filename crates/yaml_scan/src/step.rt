@@ -1,32 +1,53 @@
 //! A step: the gap, the kind of the next lexeme, the lexeme, and what the layout makes of it. The kind has to be
 //! allowed there, and what is kept of the lexeme needs room.
-ghost use Rattle.std.specs.Prelude.{Bool, List, ◌≡◌, ◌⊎◌, true, MatchResult, ◌<◌, false, nat_lt, vec_len, OnOk};
+ghost use Rattle.std.specs.Prelude.{Bool, List, ◌≡◌, ◌⊎◌, true, MatchResult, ◌<◌, false, nat_lt, vec_len, OnOk, ◌++◌};
+ghost use Rattle.std.specs.Prelude.{◌∷◌, [], length, ℕ, ◌≤◌, ◌||◌, not, IfOk, None};
 ghost use Rattle.yaml_text.specs.Fault.{memory_fault};
 ghost use Rattle.yaml_text.specs.Text.{Text};
 ghost use Rattle.yaml_lexeme.specs.declared.kind.yaml_lexeme_kind_t.{yaml_lexeme_kind_t};
 ghost use Rattle.yaml_lexeme.specs.KindSets.{is_character, marker_kind};
 ghost use Rattle.yaml_lexeme.specs.declared.kind.yaml_lexeme_kind_t.TheVariants.{STREAM_END};
 ghost use Rattle.yaml_scan.specs.Laid.{Laid};
-ghost use Rattle.yaml_scan.specs.inside.Scanner.{scanner_of};
+ghost use Rattle.yaml_scan.specs.inside.Scanner.{scanner_of, Scanner};
 ghost use Rattle.yaml_scan.specs.inside.Scanning.{Beside, CanRead, Comes, HasRoom, IsMet, Refuses, Stays, allowed_in};
-ghost use Rattle.yaml_scan.specs.inside.Scanning.{CanStep, IsStep};
+ghost use Rattle.yaml_scan.specs.inside.Scanning.{CanStep, IsStep, CanPut, groups_in, met_in, CanLayAll, IsReadIn};
 ghost use Rattle.yaml_scan.specs.inside.Stop.{fault_at};
-ghost use Rattle.yaml_scan.specs.inside.Handed.{StepsTo};
+ghost use Rattle.yaml_scan.specs.inside.Handed.{StepsTo, IsLaidAs, IsReadTo, IsTokenOf, group_with, read_to, FindsRoom};
+ghost use Rattle.yaml_scan.specs.inside.Handed.{IsLaidAlone, LaysTo, WasLaid, group_tokens};
+ghost use Rattle.std.specs.VecDeque.{deque_capacity};
+ghost use Rattle.yaml_text.specs.declared.token.yaml_token_t.{yaml_token_t as code_token_t};
+ghost use Rattle.yaml_text.specs.declared.types.yaml_mark_t.{yaml_mark_t};
+ghost use Rattle.yaml_text.specs.Token.{TokenData, data_of, token_of};
+ghost use Rattle.yaml_lexeme.specs.Lexeme.{Lexeme};
+ghost use Rattle.yaml_lexeme.specs.LexemeOf.{lexeme_of};
+ghost use Rattle.yaml_lexeme.specs.Counted.{IsMarkOf};
+ghost use Rattle.yaml_scan.specs.Kind.{is_stream_end};
+ghost use Rattle.yaml_scan.specs.Sink.{said_len};
+ghost use Rattle.yaml_scan.specs.declared.groups.group_t.{group_t};
+ghost use Rattle.yaml_scan.specs.inside.TextReads.{IsRead};
 
 use crate::allowed::is_key_allowed;
 use crate::depth::is_flow_start;
-use crate::keys::{is_lost, root_at};
-use crate::kind::step_t;
-use crate::layout::{end_character, end_laid, end_queued, lay_read};
-use crate::scanner::state_t;
-use crate::sink::{no_sink_t, yaml_token_sink_t};
+use crate::follower::{follower_of, lay_followed};
+use crate::keys::is_lost;
+use crate::laid::{
+    check_reach, end_character, end_laid, end_queued, is_queued, laid_t, lay_alone, token_of,
+};
+use crate::met::met_t;
+use crate::read::read_t;
+use crate::sink::{has_room_for_both, no_sink_t, said_len, yaml_token_sink_t};
+use crate::slots::root_at;
 use crate::source::{gap_end, kind_at, read_character, read_lexeme, read_marker, read_stream_end};
-use crate::stop::{stop_at_kind, stop_at_start, stop_in_gap, stop_t, stop_without_kind, stopped};
+use crate::state::state_t;
+use crate::stop::{
+    stop_at_kind, stop_at_start, stop_in_gap, stop_in_lexeme, stop_t, stop_without_kind, stopped,
+};
 use yaml_lexeme::{
     block_reader_t, directive_reader_t, name_reader_t, plain_reader_t, quoted_reader_t,
-    tag_reader_t, yaml_lexeme_kind_t, yaml_marker_kind, yaml_reader_t,
+    tag_reader_t, yaml_lexeme_kind_t, yaml_lexeme_t, yaml_marker_kind, yaml_reader_t,
+    yaml_refusal_t,
 };
-use yaml_text::yaml_text_t;
+use yaml_text::{yaml_text_t, yaml_token_t};
 
 /// Whether there is room for what the step of a lexeme of a kind may keep: for one more group, for one more depth if it
 /// enters one, and for one more level outside flow collections.
@@ -81,17 +102,20 @@ fn refuse_kind(
     state: &mut state_t,
     in_flow: bool,
     kind: yaml_lexeme_kind_t,
-    allowed: bool,
 ) -> Result<(), stop_t>
     ghost before: { List Laid }
-    requires comes { Comes before (scanner_of text.now state.old) in_flow kind }
-    requires allowed { allowed ≡ allowed_in (scanner_of text.now state.old) in_flow }
+    requires { Comes before (scanner_of text.now state.old) in_flow kind }
     ensures { MatchResult result
         (λ _. IsMet before (scanner_of text.now state.old)
-        record { kind = kind; gap_end = state.old.gap_end; allowed = allowed }
+        record {
+          kind = kind;
+          gap_end = state.old.gap_end;
+          allowed = allowed_in (scanner_of text.now state.old) in_flow;
+        }
         × (state.new ≡ state.old)) (λ stop. Refuses before (scanner_of text.now state.old)
         (scanner_of text.now state.new) stop) }
 {
+    let allowed = is_key_allowed(state.allowed, in_flow, state.reach, state.gap_end);
     if state.refused_by(in_flow, kind, allowed).is_some() {
         return Err(stop_at_kind(text, state, in_flow, kind));
     }
@@ -109,22 +133,102 @@ pub(crate) fn begin_step(
     state: &mut state_t,
     in_flow: bool,
     kind: yaml_lexeme_kind_t,
-) -> Result<step_t, stop_t>
+) -> Result<met_t, stop_t>
     ghost before: { List Laid }
     requires { Comes before (scanner_of text.now state.old) in_flow kind }
     ensures { MatchResult result
-        (λ step. CanRead before (scanner_of text.now state.new) step × (step.kind ≡ kind) × Stays
+        (λ met. CanRead before (scanner_of text.now state.new) met × (met.kind ≡ kind) × Stays
         (scanner_of text.now state.old) (scanner_of text.now state.new))
         (λ stop. Refuses before (scanner_of text.now state.old) (scanner_of text.now state.new) stop) }
 {
     let allowed = is_key_allowed(state.allowed, in_flow, state.reach, state.gap_end);
-    match refuse_kind(text, state, in_flow, kind, allowed) {
+    match refuse_kind(text, state, in_flow, kind) {
         Ok(_) => {}
         Err(stop) => return Err(stopped(stop)),
     }
     match ensure_room(state, in_flow, kind) {
-        Ok(_) => Ok(state.step_of(in_flow, kind, allowed)),
+        Ok(_) => Ok(state.met_of(in_flow, kind, allowed)),
         Err(stop) => Err(stopped(stop)),
+    }
+}
+
+/// Lays the lexeme of a step, which was read, and with it what comes right after it, if the next token needs both.
+#[inline(always)]
+fn lay_all<const DIRECT: bool, S: yaml_token_sink_t>(
+    text: &yaml_text_t,
+    state: &mut state_t,
+    sink: &S,
+    read: read_t,
+) -> laid_t
+    ghost before: { List Laid }
+    requires { (x : Lexeme) × (IsReadTo x read.reach read.passed_break × CanLayAll before
+        (scanner_of text.now state.old) read.met x) }
+    ensures laid { (d : TokenData) (b e : yaml_mark_t) (t : code_token_t)
+        → CanLayAll before (scanner_of text.now state.old) read.met (read_to d b e read.reach read.passed_break)
+        → IsTokenOf t d read.met.new.start e
+        → WasLaid before (scanner_of text.now state.old) (scanner_of text.now state.new) DIRECT result t }
+    ensures room { FindsRoom result read.texts (S.within sink.now) (λ tokens. (after : S) → S.took sink.now tokens after
+        → S.within after) }
+{
+    let direct = has_room_for_both::<DIRECT, S>(sink, &state.layout.levels, read.texts);
+    match follower_of(text, state, !direct, read) {
+        Some(follower) => {
+            let (ends, opens, key) = lay_followed(state, read, &follower);
+            laid_t {
+                ends,
+                opens,
+                key,
+                waits: is_queued(follower.waits, direct),
+                decider: Some(token_of(read.reach, follower.decider.lexeme)),
+            }
+        }
+        None => {
+            let (ends, opens, waits) = lay_alone(state, sink, read);
+            laid_t {
+                ends,
+                opens,
+                key: false,
+                waits,
+                decider: None,
+            }
+        }
+    }
+}
+
+/// Lays what was read for a step. Returns what was laid, and its token. Stops if it was refused, if it is near the
+/// reader's fault, or if a candidate is lost.
+#[inline(always)]
+fn lay_read<const DIRECT: bool, S: yaml_token_sink_t>(
+    text: &yaml_text_t,
+    state: &mut state_t,
+    sink: &S,
+    met: met_t,
+    read: Result<yaml_lexeme_t, yaml_refusal_t>,
+) -> Result<(laid_t, yaml_token_t), stop_t>
+    ghost before: { List Laid }
+    requires { CanRead before (scanner_of text.now state.old) met
+        × IsReadIn (scanner_of text.now state.old) met.kind met.context state.old.there read }
+    ensures laid { MatchResult result (λ r. WasLaid before (scanner_of text.now state.old)
+        (scanner_of text.now state.new) DIRECT r.0 r.1)
+        (λ stop. Refuses before (scanner_of text.now state.old) (scanner_of text.now state.new) stop) }
+    ensures room { IfOk result (λ r. FindsRoom r.0 (said_len (data_of r.1.token_data)) (S.within sink.now) (λ tokens.
+        (after : S) → S.took sink.now tokens after → S.within after)) }
+{
+    match read {
+        Ok(lexeme) => match check_reach(text, state, met, &lexeme) {
+            Ok(_) => {
+                let read = read_t {
+                    met,
+                    reach: lexeme.reach,
+                    passed_break: lexeme.passed_break,
+                    texts: said_len(&lexeme.token_data),
+                };
+                let laid = lay_all::<DIRECT, S>(text, state, sink, read);
+                Ok((laid, token_of(met.new.start, lexeme)))
+            }
+            Err(stop) => Err(stopped(stop)),
+        },
+        Err(refusal) => Err(stop_in_lexeme(text, state, met.kind, refusal)),
     }
 }
 
@@ -143,10 +247,10 @@ fn step_lexeme<R: yaml_reader_t, const IN_FLOW: bool, const DIRECT: bool, S: yam
     ensures within { OnOk result (S.within sink.old → S.within sink.new) }
 {
     match begin_step(text, state, IN_FLOW, R::KIND) {
-        Ok(step) => {
+        Ok(met) => {
             let room = sink.room(state.alloc);
-            let read = read_lexeme::<R>(room, text, state, step.context);
-            match lay_read::<DIRECT, S>(text, state, sink, step, read) {
+            let read = read_lexeme::<R>(room, text, state, met.context);
+            match lay_read::<DIRECT, S>(text, state, sink, met, read) {
                 Ok((laid, token)) => end_laid::<DIRECT, S>(state, sink, laid, token),
                 Err(stop) => Err(stopped(stop)),
             }
@@ -171,25 +275,27 @@ fn step_queued<R: yaml_reader_t, const IN_FLOW: bool>(
 
 /// Makes the step of a lexeme of one character.
 #[inline(always)]
-fn step_character<const DIRECT: bool, S: yaml_token_sink_t>(
+fn step_character<const IN_FLOW: bool, const DIRECT: bool, S: yaml_token_sink_t>(
     text: &yaml_text_t,
     state: &mut state_t,
     sink: &mut S,
-    in_flow: bool,
     kind: yaml_lexeme_kind_t,
 ) -> Result<(), stop_t>
     ghost before: { List Laid }
-    requires comes { Comes before (scanner_of text.now state.old) in_flow kind }
+    requires comes { Comes before (scanner_of text.now state.old) IN_FLOW kind }
     requires kind { is_character kind ≡ true }
     ensures steps { StepsTo before (scanner_of text.now state.old) (scanner_of text.now state.new) DIRECT
         (λ tokens. S.took sink.old tokens sink.new)
         S.may_refuse result }
     ensures within { OnOk result (S.within sink.old → S.within sink.new) }
 {
-    match begin_step(text, state, in_flow, kind) {
-        Ok(step) => {
+    match begin_step(text, state, IN_FLOW, kind) {
+        Ok(met) => {
             let lexeme = read_character(text, state, kind);
-            end_character::<DIRECT, S>(text, state, sink, step, lexeme)
+            match check_reach(text, state, met, &lexeme) {
+                Ok(_) => end_character::<DIRECT, S>(state, sink, met, lexeme),
+                Err(stop) => Err(stopped(stop)),
+            }
         }
         Err(stop) => Err(stopped(stop)),
     }
@@ -206,9 +312,9 @@ fn step_marker<const IN_FLOW: bool, const START: bool>(
     ensures { IsStep before (scanner_of text.now state.old) (scanner_of text.now state.new) result }
 {
     match begin_step(text, state, IN_FLOW, yaml_marker_kind(START)) {
-        Ok(step) => {
+        Ok(met) => {
             let lexeme = read_marker(text, state, START);
-            end_queued(text, state, step, lexeme)
+            end_queued(text, state, met, lexeme)
         }
         Err(stop) => Err(stopped(stop)),
     }
@@ -225,9 +331,9 @@ fn step_stream_end<const IN_FLOW: bool>(
     ensures { IsStep before (scanner_of text.now state.old) (scanner_of text.now state.new) result }
 {
     match begin_step(text, state, IN_FLOW, yaml_lexeme_kind_t::STREAM_END) {
-        Ok(step) => {
+        Ok(met) => {
             let lexeme = read_stream_end(text, state);
-            end_queued(text, state, step, lexeme)
+            end_queued(text, state, met, lexeme)
         }
         Err(stop) => Err(stopped(stop)),
     }
@@ -271,59 +377,53 @@ fn step_kind<const IN_FLOW: bool, const DIRECT: bool, S: yaml_token_sink_t>(
         yaml_lexeme_kind_t::STREAM_END => step_stream_end::<IN_FLOW>(text, state),
         yaml_lexeme_kind_t::DOCUMENT_START => step_marker::<IN_FLOW, true>(text, state),
         yaml_lexeme_kind_t::DOCUMENT_END => step_marker::<IN_FLOW, false>(text, state),
-        yaml_lexeme_kind_t::VALUE => step_character::<DIRECT, S>(
+        yaml_lexeme_kind_t::VALUE => step_character::<IN_FLOW, DIRECT, S>(
             text,
             state,
             sink,
-            IN_FLOW,
             yaml_lexeme_kind_t::VALUE,
         ),
-        yaml_lexeme_kind_t::KEY => step_character::<DIRECT, S>(
+        yaml_lexeme_kind_t::KEY => step_character::<IN_FLOW, DIRECT, S>(
             text,
             state,
             sink,
-            IN_FLOW,
             yaml_lexeme_kind_t::KEY,
         ),
         yaml_lexeme_kind_t::BLOCK_ENTRY => {
-            step_character::<DIRECT, S>(text, state, sink, IN_FLOW, yaml_lexeme_kind_t::BLOCK_ENTRY)
+            step_character::<IN_FLOW, DIRECT, S>(text, state, sink, yaml_lexeme_kind_t::BLOCK_ENTRY)
         }
         yaml_lexeme_kind_t::FLOW_ENTRY => {
-            step_character::<DIRECT, S>(text, state, sink, IN_FLOW, yaml_lexeme_kind_t::FLOW_ENTRY)
+            step_character::<IN_FLOW, DIRECT, S>(text, state, sink, yaml_lexeme_kind_t::FLOW_ENTRY)
         }
         yaml_lexeme_kind_t::FLOW_SEQUENCE_START => {
-            step_character::<DIRECT, S>(
+            step_character::<IN_FLOW, DIRECT, S>(
                 text,
                 state,
                 sink,
-                IN_FLOW,
                 yaml_lexeme_kind_t::FLOW_SEQUENCE_START,
             )
         }
         yaml_lexeme_kind_t::FLOW_MAPPING_START => {
-            step_character::<DIRECT, S>(
+            step_character::<IN_FLOW, DIRECT, S>(
                 text,
                 state,
                 sink,
-                IN_FLOW,
                 yaml_lexeme_kind_t::FLOW_MAPPING_START,
             )
         }
         yaml_lexeme_kind_t::FLOW_SEQUENCE_END => {
-            step_character::<DIRECT, S>(
+            step_character::<IN_FLOW, DIRECT, S>(
                 text,
                 state,
                 sink,
-                IN_FLOW,
                 yaml_lexeme_kind_t::FLOW_SEQUENCE_END,
             )
         }
         yaml_lexeme_kind_t::FLOW_MAPPING_END => {
-            step_character::<DIRECT, S>(
+            step_character::<IN_FLOW, DIRECT, S>(
                 text,
                 state,
                 sink,
-                IN_FLOW,
                 yaml_lexeme_kind_t::FLOW_MAPPING_END,
             )
         }
@@ -331,91 +431,31 @@ fn step_kind<const IN_FLOW: bool, const DIRECT: bool, S: yaml_token_sink_t>(
     }
 }
 
-/// Makes the step of a lexeme of a kind, after the gap. `in_flow`: the scanner is inside a flow collection.
-#[inline(always)]
-fn step_any<const DIRECT: bool, S: yaml_token_sink_t>(
+/// Makes a step, inside a flow collection or outside, where columns count.
+#[inline(never)]
+fn step_at<const IN_FLOW: bool, const DIRECT: bool, S: yaml_token_sink_t>(
     text: &yaml_text_t,
     state: &mut state_t,
     sink: &mut S,
-    in_flow: bool,
-    kind: yaml_lexeme_kind_t,
-) -> Result<(), stop_t>
-    ghost before: { List Laid }
-    requires { Comes before (scanner_of text.now state.old) in_flow kind }
-    ensures steps { StepsTo before (scanner_of text.now state.old) (scanner_of text.now state.new) DIRECT
-        (λ tokens. S.took sink.old tokens sink.new)
-        S.may_refuse result }
-    ensures within { OnOk result (S.within sink.old → S.within sink.new) }
-{
-    if in_flow {
-        step_kind::<true, DIRECT, S>(text, state, sink, kind)
-    } else {
-        step_kind::<false, DIRECT, S>(text, state, sink, kind)
-    }
-}
-
-/// Makes a step. `in_flow`: the scanner is inside a flow collection.
-#[inline(always)]
-fn step_at<const DIRECT: bool, S: yaml_token_sink_t>(
-    text: &yaml_text_t,
-    state: &mut state_t,
-    sink: &mut S,
-    in_flow: bool,
 ) -> Result<(), stop_t>
     ghost before: { List Laid }
     requires can { CanStep before (scanner_of text.now state.old) }
-    requires flow { in_flow ≡ nat_lt 0 (vec_len state.old.slots.outer) }
+    requires flow { IN_FLOW ≡ nat_lt 0 (vec_len state.old.slots.outer) }
     ensures steps { StepsTo before (scanner_of text.now state.old) (scanner_of text.now state.new) DIRECT
         (λ tokens. S.took sink.old tokens sink.new)
         S.may_refuse result }
     ensures within { OnOk result (S.within sink.old → S.within sink.new) }
 {
-    let gap_end = gap_end(text, state.reach, in_flow, state.allowed);
+    let gap_end = gap_end(text, state.reach, IN_FLOW, state.allowed);
     state.gap_end = gap_end;
-    let root = root_at(&state.slots.outer, state.slots.top, in_flow);
-    if is_lost(root, in_flow, state.limit, gap_end) {
+    let root = root_at(&state.slots.outer, state.slots.top, IN_FLOW);
+    if is_lost(root, IN_FLOW, state.limit, gap_end) {
         return Err(stop_in_gap(text, state));
     }
-    match kind_at(text, gap_end, in_flow) {
-        Some(kind) => step_any::<DIRECT, S>(text, state, sink, in_flow, kind),
+    match kind_at(text, gap_end, IN_FLOW) {
+        Some(kind) => step_kind::<IN_FLOW, DIRECT, S>(text, state, sink, kind),
         None => Err(stop_without_kind(text, state)),
     }
-}
-
-/// Makes a step outside flow collections, where columns count.
-#[inline(never)]
-fn step_in_block<const DIRECT: bool, S: yaml_token_sink_t>(
-    text: &yaml_text_t,
-    state: &mut state_t,
-    sink: &mut S,
-) -> Result<(), stop_t>
-    ghost before: { List Laid }
-    requires can { CanStep before (scanner_of text.now state.old) }
-    requires block { vec_len state.old.slots.outer ≡ 0 }
-    ensures steps { StepsTo before (scanner_of text.now state.old) (scanner_of text.now state.new) DIRECT
-        (λ tokens. S.took sink.old tokens sink.new)
-        S.may_refuse result }
-    ensures within { OnOk result (S.within sink.old → S.within sink.new) }
-{
-    step_at::<DIRECT, S>(text, state, sink, false)
-}
-
-/// Makes a step inside a flow collection.
-#[inline(never)]
-fn step_in_flow<const DIRECT: bool, S: yaml_token_sink_t>(
-    text: &yaml_text_t,
-    state: &mut state_t,
-    sink: &mut S,
-) -> Result<(), stop_t>
-    ghost before: { List Laid }
-    requires can { CanStep before (scanner_of text.now state.old) }
-    requires flow { 0 < vec_len state.old.slots.outer }
-    ensures steps { StepsTo before (scanner_of text.now state.old) (scanner_of text.now state.new) DIRECT
-        (λ tokens. S.took sink.old tokens sink.new)
-        S.may_refuse result }
-    ensures within { OnOk result (S.within sink.old → S.within sink.new) }
-{
-    step_at::<DIRECT, S>(text, state, sink, true)
 }
 
 /// Makes a step, or two if the next token needs both, and hands on their groups: straight to the sink if `DIRECT` and
@@ -434,9 +474,9 @@ pub(crate) fn step_to<const DIRECT: bool, S: yaml_token_sink_t>(
     ensures within { OnOk result (S.within sink.old → S.within sink.new) }
 {
     if state.slots.outer.is_empty() {
-        step_in_block::<DIRECT, S>(text, state, sink)
+        step_at::<false, DIRECT, S>(text, state, sink)
     } else {
-        step_in_flow::<DIRECT, S>(text, state, sink)
+        step_at::<true, DIRECT, S>(text, state, sink)
     }
 }
 

@@ -8,7 +8,7 @@ ghost use Rattle.yaml_lexeme.specs.Lexeme.{Lexeme as yaml_lexeme_t};
 ghost use Rattle.yaml_lexeme.specs.Counted.{IsMarkOf};
 ghost use Rattle.yaml_scan.specs.declared.stop.stop_t.TheVariants.{MEMORY, SINK};
 ghost use Rattle.yaml_scan.specs.inside.Stop.{fault_at, no_fault};
-ghost use Rattle.yaml_scan.specs.declared.kind.step_t.{step_t};
+ghost use Rattle.yaml_scan.specs.declared.met.met_t.{met_t};
 ghost use Rattle.yaml_scan.specs.Laid.{Laid};
 ghost use Rattle.yaml_scan.specs.SourceOf.{source_of};
 ghost use Rattle.yaml_scan.specs.Step.{gap_end_of, no_colon, in_simple_key};
@@ -18,10 +18,10 @@ ghost use Rattle.yaml_scan.specs.inside.Scanning.{CanRead, CanStep, Comes, Ends,
 ghost use Rattle.yaml_scan.specs.inside.Scanning.{Refuses, allowed_in, cleared_in, refused_in};
 
 use crate::allowed::is_key_allowed;
-use crate::depth::candidate_t;
-use crate::keys::{lost_at, root};
+use crate::keys::{candidate_t, lost_at};
 use crate::kind::start_after;
-use crate::scanner::state_t;
+use crate::slots::root;
+use crate::state::state_t;
 use std::alloc::AllocError;
 use yaml_lexeme::{yaml_lexeme_fault, yaml_lexeme_kind_t, yaml_refusal_t};
 use yaml_text::{
@@ -245,8 +245,8 @@ pub(crate) fn stop_in_lexeme(
     refusal: yaml_refusal_t,
 ) -> stop_t
     ghost before: { List Laid }
-    requires { (step : step_t) × CanRead before (scanner_of text.now state.old) step × (step.kind ≡ kind)
-        × IsReadIn (scanner_of text.now state.old) kind step.context state.old.there (Err refusal) }
+    requires { (met : met_t) × CanRead before (scanner_of text.now state.old) met × (met.kind ≡ kind)
+        × IsReadIn (scanner_of text.now state.old) kind met.context state.old.there (Err refusal) }
     ensures { Refuses before (scanner_of text.now state.old) (scanner_of text.now state.new) result }
 {
     match refusal {
@@ -265,20 +265,20 @@ pub(crate) fn stop_after(
     state: &mut state_t,
     in_flow: bool,
     kind: yaml_lexeme_kind_t,
-    allowed: bool,
 ) -> stop_t
     ghost before: { List Laid }
-    requires { (step : step_t) × (lexeme : yaml_lexeme_t) × StopsAfter before
-        (scanner_of text.now state.old) step lexeme
-        × (step.in_flow ≡ in_flow) × (step.kind ≡ kind) × (step.allowed ≡ allowed) }
+    requires { (met : met_t) × (lexeme : yaml_lexeme_t) × StopsAfter before
+        (scanner_of text.now state.old) met lexeme
+        × (met.in_flow ≡ in_flow) × (met.kind ≡ kind) }
     ensures { Refuses before (scanner_of text.now state.old) (scanner_of text.now state.new) result }
 {
     let there = state.there;
     if state.near <= there.index {
         return stop_near(text, state);
     }
-    let step = state.step_of(in_flow, kind, allowed);
-    match lost_at(state.root_after(step), state.limit, there) {
+    let allowed = is_key_allowed(state.allowed, in_flow, state.reach, state.gap_end);
+    let met = state.met_of(in_flow, kind, allowed);
+    match lost_at(state.root_after(met), state.limit, there) {
         Some(held) => stop_without(text, state, held, there),
         None => unreachable!(),
     }

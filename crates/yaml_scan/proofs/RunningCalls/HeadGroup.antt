@@ -18,7 +18,7 @@ use Rattle.yaml_scan.specs.Settled.{before, up_to}
 use Rattle.yaml_scan.specs.Token.{yaml_token_t}
 use Rattle.yaml_scan.specs.Words.{HasWords, HaveWords}
 use Rattle.yaml_scan.specs.declared.groups.group_t.{group_t}
-use Rattle.yaml_scan.specs.declared.groups.queue_t.{queue_t}
+use Rattle.yaml_scan.specs.declared.queue.queue_t.{queue_t}
 use Rattle.yaml_scan.specs.inside.Scanner.{Scanner}
 use Rattle.yaml_scan.specs.inside.Given.{all_in, told_all, told_taken}
 use Rattle.yaml_scan.specs.inside.Handed.{group_tokens, is_end, set_queue, told_leads}

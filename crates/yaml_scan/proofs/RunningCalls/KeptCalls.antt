@@ -15,7 +15,7 @@ use Rattle.yaml_scan.specs.declared.stop.stop_t.{stop_t}
 use Rattle.yaml_scan.specs.declared.groups.group_t.{group_t}
 use Rattle.yaml_scan.specs.declared.kept.yaml_kept_parser_t.{yaml_kept_parser_t}
 use Rattle.yaml_scan.specs.declared.session.session_t.{session_t}
-use Rattle.yaml_scan.specs.declared.scanner.state_t.{state_t}
+use Rattle.yaml_scan.specs.declared.state.state_t.{state_t}
 use Rattle.yaml_scan.specs.Decoded.{decoded_input}
 use Rattle.yaml_scan.specs.Headline.{Calls}
 use Rattle.yaml_scan.specs.KeptCalls.{ComesFirst, GivesMore, GivesToFault, HasNoMoreRoom, token_peeked}

@@ -21,7 +21,7 @@ use Rattle.yaml_scan.specs.Near.{unless_near, is_near, place_of, starts_near}
 use Rattle.yaml_scan.specs.Settled.{before}
 use Rattle.yaml_scan.specs.inside.Holding.{HoldsQueue}
 use Rattle.yaml_scan.specs.inside.Handed.{set_queue}
-use Rattle.yaml_scan.specs.declared.groups.queue_t.{queue_t}
+use Rattle.yaml_scan.specs.declared.queue.queue_t.{queue_t}
 use Rattle.yaml_scan.specs.inside.Scanning.{HoldsWith, AdvancesWith, AdvancesTwice, Ends, Makes, Needs, Offends, IsRunning, RunsWith, StepsOn, StepsWith, IsLast, groups_in, Same, IsNearFrom, IsNearOf, IsStep, Halts, counted, history}
 use Rattle.yaml_scan.specs.inside.Scanning.{course_of, input_of}
 use Rattle.yaml_scan.proofs.Course.LongestCut.{IsHistory-from_run, run_short}

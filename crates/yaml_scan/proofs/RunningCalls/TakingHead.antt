@@ -6,7 +6,7 @@ use Rattle.yaml_scan.specs.Laid.{Laid}
 use Rattle.yaml_scan.specs.Order.{IsHistory}
 use Rattle.yaml_scan.specs.Groups.{Token, offline}
 use Rattle.yaml_scan.specs.Settled.{before}
-use Rattle.yaml_scan.specs.declared.groups.queue_t.{queue_t}
+use Rattle.yaml_scan.specs.declared.queue.queue_t.{queue_t}
 use Rattle.yaml_scan.specs.inside.Handed.{set_queue}
 use Rattle.yaml_scan.specs.inside.Queue.{IsQueue, Takes, TakesNext}
 use Rattle.yaml_scan.specs.inside.Holding.{HoldsQueue}

@@ -7,7 +7,7 @@ use Rattle.yaml_text.specs.declared.types.yaml_mark_t.{yaml_mark_t}
 use Rattle.yaml_scan.specs.Laid.{Laid, reach}
 use Rattle.yaml_scan.specs.Keys.{candidate, live, only_live}
 use Rattle.yaml_scan.specs.Depth.{depth}
-use Rattle.yaml_scan.specs.declared.depth.slots_t.{slots_t}
+use Rattle.yaml_scan.specs.declared.slots.slots_t.{slots_t}
 use Rattle.yaml_scan.specs.inside.Holding.{HoldsKeys}
 use Rattle.yaml_scan.specs.inside.Slots.{Held, held, held_of, outer_to, lowest, held_step, AreNested}
 use Rattle.yaml_scan.specs.Settled.{up_to}

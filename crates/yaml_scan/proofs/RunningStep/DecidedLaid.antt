@@ -14,9 +14,9 @@ use Rattle.yaml_lexeme.specs.Decider.{decides}
 use Rattle.yaml_lexeme.specs.Lexeme.{Lexeme as yaml_lexeme_t}
 use Rattle.yaml_scan.specs.declared.groups.block_t.TheVariants.{MAPPING, NONE}
 use Rattle.yaml_scan.specs.declared.groups.group_t.{group_t}
-use Rattle.yaml_scan.specs.declared.depth.slots_t.{slots_t}
-use Rattle.yaml_scan.specs.declared.levels.layout_t.{layout_t}
-use Rattle.yaml_scan.specs.declared.kind.step_t.{step_t}
+use Rattle.yaml_scan.specs.declared.slots.slots_t.{slots_t}
+use Rattle.yaml_scan.specs.declared.layout.layout_t.{layout_t}
+use Rattle.yaml_scan.specs.declared.met.met_t.{met_t}
 use Rattle.yaml_scan.specs.inside.Scanner.{Scanner}
 use Rattle.yaml_scan.specs.Allowed.{allows}
 use Rattle.yaml_scan.specs.Kind.{Kind, is_stream_end, is_value}
@@ -76,7 +76,7 @@ accepted false k true g e = refl
 accepted false k false g e = rw (decider_is_value k e, decider_not_entry false k e, decider_not_key false k e) refl
 
 -- A CANDIDATE, AND WHAT DECIDES IT
-module _ (H : List Laid) (s : Scanner) (r : step_t) (x : yaml_lexeme_t) (c : CanLayAll H s r x) (sparing : Bool) (k : Kind) (y : yaml_lexeme_t) (d : IsDecided s sparing r x.reach k y) where
+module _ (H : List Laid) (s : Scanner) (r : met_t) (x : yaml_lexeme_t) (c : CanLayAll H s r x) (sparing : Bool) (k : Kind) (y : yaml_lexeme_t) (d : IsDecided s sparing r x.reach k y) where
   abbrev h : Holds H (s.made + 1) s
   h = c.can.can.holds
 

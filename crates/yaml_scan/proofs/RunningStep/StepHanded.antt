@@ -12,7 +12,7 @@ use Rattle.yaml_scan.specs.Course.{ended}
 use Rattle.yaml_scan.specs.declared.stop.stop_t.{stop_t}
 use Rattle.yaml_scan.specs.declared.stop.stop_t.TheVariants.{SINK}
 use Rattle.yaml_scan.specs.declared.groups.group_t.{group_t}
-use Rattle.yaml_scan.specs.declared.groups.queue_t.{queue_t}
+use Rattle.yaml_scan.specs.declared.queue.queue_t.{queue_t}
 use Rattle.yaml_scan.specs.inside.Scanner.{Scanner}
 use Rattle.yaml_scan.specs.Groups.{Token, offline}
 use Rattle.yaml_lexeme.specs.Counted.{IsMarkOf}
@@ -28,7 +28,7 @@ use Rattle.yaml_scan.specs.inside.TextReads.{IsDecider, IsRead}
 use Rattle.yaml_scan.proofs.RunningStep.HeldBeside.{holds_as}
 use Rattle.yaml_scan.proofs.RunningStep.TwoLaid.{read_place}
 use Rattle.yaml_lexeme.specs.Lexeme.{Lexeme as yaml_lexeme_t}
-use Rattle.yaml_scan.specs.declared.kind.step_t.{step_t}
+use Rattle.yaml_scan.specs.declared.met.met_t.{met_t}
 use Rattle.yaml_scan.proofs.SessionCalls.AnswerWords.{read_has_words}
 use Rattle.yaml_scan.proofs.Texts.LexemeReads.{decider_silent, read_says}
 use Rattle.yaml_scan.specs.inside.Handed.{AllSettled, Empties, HandsOut, IsCut, IsHanded, IsHandedOn, IsLaidAlone, IsLaidAs, IsLaidBoth, IsPushed, LaysTo, WasLaidWith, group_tokens, groups_tokens, is_end, keys_of, lone, made_by, one_done, set_queue, starts_of, told_leads, with_queue}
@@ -146,7 +146,7 @@ module _ (H : List Laid) (s u : Scanner) (k : Kind) (y : group_t) (A : IsLaidAs 
     one_handed (Err stop) g = (g.2, (1, group_tokens y, u, groups_in u ++ y ∷ [], inl (refl, A.advances, FAR), g.0, settled_all g.1, g.3), g.4)
 
 -- THE LEXEME OF A STEP
-module _ (H : List Laid) (s : Scanner) (r : step_t) (x : yaml_lexeme_t) (c : CanLayAll H s r x) where
+module _ (H : List Laid) (s : Scanner) (r : met_t) (x : yaml_lexeme_t) (c : CanLayAll H s r x) where
   read_there : IsRead s.text.chars r.kind r.context.depth r.context.level (gap_end_of (source_of s.text.chars) H) x
   read_there = c.read (gap_end_of (source_of s.text.chars) H) c.can.met.gap_end
 
@@ -322,7 +322,7 @@ both_given direct waits u t v y z k l (inr p) (inl q) = absurd (false≢true (sy
 both_given direct waits u t v y z k l (inr p) (inr q) = inr (p.1, p.2, q.2)
 
 -- WHAT COMES RIGHT AFTER A CANDIDATE
-module _ (H : List Laid) (s : Scanner) (r : step_t) (x : yaml_lexeme_t) (c : CanLayAll H s r x) (candidate : is_candidate_kind r.kind ≡ true) (k : Kind) (w : yaml_lexeme_t) (d : (p : ℕ) → IsMarkOf s.text.chars x.reach p → IsDecider s.text.chars r.in_flow p k w) where
+module _ (H : List Laid) (s : Scanner) (r : met_t) (x : yaml_lexeme_t) (c : CanLayAll H s r x) (candidate : is_candidate_kind r.kind ≡ true) (k : Kind) (w : yaml_lexeme_t) (d : (p : ℕ) → IsMarkOf s.text.chars x.reach p → IsDecider s.text.chars r.in_flow p k w) where
   decider_there : IsDecider s.text.chars r.in_flow (read_place H s r x c candidate).0 k w
   decider_there = let p = read_place H s r x c candidate in d p.0 p.1
 
@@ -353,7 +353,7 @@ module _ (H : List Laid) (s : Scanner) (r : step_t) (x : yaml_lexeme_t) (c : Can
       ap said_len e ∙ decider_silent s.text.chars r.in_flow k 0 None p.0 w q.decides (q.read 0 None)
 
 -- WHAT FOLLOWS, WAITING OR NOT
-module _ (s : Scanner) (sparing : Bool) (r : step_t) (at : yaml_mark_t) where
+module _ (s : Scanner) (sparing : Bool) (r : met_t) (at : yaml_mark_t) where
   pub follower_candidate : (waits : Bool) (k : Kind) (w : yaml_lexeme_t) → IsFollower s sparing r at waits k w → is_candidate_kind r.kind ≡ true
   follower_candidate true k w f = let u = f.waits in u.candidate
   follower_candidate false k w f = let u = f.undecided in u.candidate

@@ -14,9 +14,9 @@ use Rattle.yaml_scan.specs.inside.Scanner.{Scanner}
 use Rattle.yaml_scan.specs.inside.Holding.{HoldsKeys, HoldsLevels, HoldsQueue}
 use Rattle.yaml_scan.specs.inside.Scanning.{Met}
 use Rattle.yaml_scan.specs.declared.groups.group_t.{group_t}
-use Rattle.yaml_scan.specs.declared.groups.queue_t.{queue_t}
-use Rattle.yaml_scan.specs.declared.depth.slots_t.{slots_t}
-use Rattle.yaml_scan.specs.declared.levels.layout_t.{layout_t}
+use Rattle.yaml_scan.specs.declared.queue.queue_t.{queue_t}
+use Rattle.yaml_scan.specs.declared.slots.slots_t.{slots_t}
+use Rattle.yaml_scan.specs.declared.layout.layout_t.{layout_t}
 use Rattle.yaml_text.specs.Token.{token_of}
 use Rattle.yaml_scan.specs.Kind.{Kind, is_candidate_kind, is_stream_end}
 use Rattle.yaml_scan.specs.Source.{Source, Reading, Offence}

@@ -10,7 +10,7 @@ use Rattle.yaml_lexeme.specs.declared.problem.yaml_refusal_t.{yaml_refusal_t}
 use Rattle.yaml_scan.specs.Course.{ended}
 use Rattle.yaml_scan.specs.declared.stop.stop_t.{stop_t}
 use Rattle.yaml_scan.specs.declared.groups.group_t.{group_t}
-use Rattle.yaml_scan.specs.declared.kind.step_t.{step_t}
+use Rattle.yaml_scan.specs.declared.met.met_t.{met_t}
 use Rattle.yaml_scan.specs.inside.Scanner.{Scanner}
 use Rattle.yaml_scan.specs.Kind.{Kind}
 use Rattle.yaml_scan.specs.Laid.{Laid}
@@ -39,7 +39,7 @@ pub stays_on : (s t u : Scanner) → Stays s t → Stays t u → Stays s u
 stays_on s t u a b = record { same = same_trans s t u a.same b.same; halts = halts_trans s t u a.halts b.halts }
 
 -- READING
-pub read_in : (H : List Laid) (s : Scanner) (r : step_t) (t : Scanner) → CanRead H s r → CanRead H (at_there s t) r
+pub read_in : (H : List Laid) (s : Scanner) (r : met_t) (t : Scanner) → CanRead H s r → CanRead H (at_there s t) r
 read_in H s r t c = let h = c.can.holds in let e = c.met in let w = c.is_new in record {
   can = record { holds = holds_as H (s.made + 1) s (at_there s t) h refl refl refl refl refl refl h.queue h.taken; running = c.can.running; small = c.can.small; few_steps = c.can.few_steps; near = c.can.near };
   met = record { gap_end = e.gap_end; allowed = e.allowed; kind = e.kind; step = e.step };
@@ -59,7 +59,7 @@ read_as : (s : Scanner) (k : Kind) (x : yaml_context_t) (t : Scanner) (o : Resul
 read_as s k x t (Ok l) f = f
 read_as s k x t (Err r) f = f
 
-pub read_then : (H : List Laid) (s t : Scanner) (r : step_t) (k : Kind) (o : Result code_lexeme_t yaml_refusal_t) → CanRead H s r → r.kind ≡ k → HasRead s t k r.context o
+pub read_then : (H : List Laid) (s t : Scanner) (r : met_t) (k : Kind) (o : Result code_lexeme_t yaml_refusal_t) → CanRead H s r → r.kind ≡ k → HasRead s t k r.context o
     → CanRead H t r × IsReadIn t r.kind r.context t.there o
 read_then H s t r k o c e h = (
   subst (λ (u : Scanner). CanRead H u r) (sym h.same) (read_in H s r t c),
@@ -153,7 +153,7 @@ stop_from H s t u stop e w = refuses_from H s t u stop e w
 
 -- ROOM
 pub ready : (H : List Laid) (s t : Scanner) (in_flow : Bool) (k : Kind) → Comes H s in_flow k → IsMet H s (record { kind = k; gap_end = s.gap_end; allowed = allowed_in s in_flow }) → Beside s t
-    → (r : step_t) → HasRoom t r.in_flow r.kind → r.kind ≡ k → r.allowed ≡ allowed_in s in_flow → IsNewHeld t (met_in t r) r.in_flow r.context.level r.new → r.context.depth ≡ vec_len t.slots.outer → CanRead H t r
+    → (r : met_t) → HasRoom t r.in_flow r.kind → r.kind ≡ k → r.allowed ≡ allowed_in s in_flow → IsNewHeld t (met_in t r) r.in_flow r.context.level r.new → r.context.depth ≡ vec_len t.slots.outer → CanRead H t r
 ready H s t in_flow k w m b r room K A new d =
     let c = w.passes.can in
     let can : CanStep H t = record {

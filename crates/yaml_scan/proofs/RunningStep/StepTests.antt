@@ -9,7 +9,7 @@ use Rattle.yaml_text.specs.Decoding.{refusal_seen}
 use Rattle.yaml_lexeme.specs.Lexeme.{Lexeme as yaml_lexeme_t}
 use Rattle.yaml_lexeme.specs.Counted.{IsMarkOf}
 use Rattle.yaml_scan.specs.Step.{no_colon, no_token, in_next_token, in_simple_key}
-use Rattle.yaml_scan.specs.declared.kind.step_t.{step_t}
+use Rattle.yaml_scan.specs.declared.met.met_t.{met_t}
 use Rattle.yaml_scan.specs.inside.Scanner.{Scanner}
 use Rattle.yaml_scan.specs.Kind.{Kind}
 use Rattle.yaml_scan.specs.Laid.{Laid, Lexeme}
@@ -110,7 +110,7 @@ module _ (H : List Laid) (s : Scanner) (in_flow : Bool) (w : Passes H s in_flow)
     }
 
 -- what is kept of a lexeme is the same whenever it is asked
-new_same : (s : Scanner) (q r : step_t) → q.kind ≡ r.kind → IsNewHeld s (met_in s q) q.in_flow q.context.level q.new → IsNewHeld s (met_in s r) r.in_flow r.context.level r.new → q.new ≡ r.new
+new_same : (s : Scanner) (q r : met_t) → q.kind ≡ r.kind → IsNewHeld s (met_in s q) q.in_flow q.context.level q.new → IsNewHeld s (met_in s r) r.in_flow r.context.level r.new → q.new ≡ r.new
 new_same s q r k a b =
     let f : q.in_flow ≡ r.in_flow = a.flow ∙ sym b.flow in
     let st : q.new.start ≡ r.new.start = a.start ∙ ap (λ (z : Kind). start_at z s.gap_end) k ∙ sym b.start in
@@ -124,12 +124,12 @@ new_same s q r k a b =
     held_same : (h k : Held) → h.step ≡ k.step → h.start ≡ k.start → h.required ≡ k.required → h ≡ k
     held_same h k e f g = λ j. record { step = e j; start = f j; required = g j }
 
-pub root_same : (s : Scanner) (q r : step_t) → q.kind ≡ r.kind → q.allowed ≡ r.allowed → IsNewHeld s (met_in s q) q.in_flow q.context.level q.new → IsNewHeld s (met_in s r) r.in_flow r.context.level r.new
+pub root_same : (s : Scanner) (q r : met_t) → q.kind ≡ r.kind → q.allowed ≡ r.allowed → IsNewHeld s (met_in s q) q.in_flow q.context.level q.new → IsNewHeld s (met_in s r) r.in_flow r.context.level r.new
     → root_of s.slots.outer.items (slot_after q.kind q.allowed q.new s.slots.top) ≡ root_of s.slots.outer.items (slot_after r.kind r.allowed r.new s.slots.top)
 root_same s q r k a b c = let n = new_same s q r k b c in rw (k, a, n) refl
 
 -- the candidate that is lost is found again
-pub lost_again : (s : Scanner) (q r : step_t) → q.kind ≡ r.kind → q.allowed ≡ r.allowed → IsNewHeld s (met_in s q) q.in_flow q.context.level q.new → IsNewHeld s (met_in s r) r.in_flow r.context.level r.new
+pub lost_again : (s : Scanner) (q r : met_t) → q.kind ≡ r.kind → q.allowed ≡ r.allowed → IsNewHeld s (met_in s q) q.in_flow q.context.level q.new → IsNewHeld s (met_in s r) r.in_flow r.context.level r.new
     → (there m : yaml_mark_t) → there ≡ m → (root : Option Held) → root ≡ root_of s.slots.outer.items (slot_after r.kind r.allowed r.new s.slots.top) → (l : Option Held) → l ≡ lost_held s.limit there root
     → lost_after s.limit s.slots (met_in s q) q.new m ≡ l
 lost_again s q r k a b c there m t root R l L =
@@ -163,7 +163,7 @@ module _ (H : List Laid) (s : Scanner) (c : CanStep H s) (in_flow : Bool) (FLOW 
     gap_passed e = record { can = gap_end_can H s m c; flow = FLOW; gap_end = gap_end_here; none_lost = none_or (lost_held s.limit m (root_of s.slots.outer.items s.slots.top)) (sym lost_is ∙ e) }
 
 -- AFTER THE LEXEME
-module _ (H : List Laid) (s : Scanner) (q : step_t) (c : CanRead H s q) where
+module _ (H : List Laid) (s : Scanner) (q : met_t) (c : CanRead H s q) where
   abbrev cs : List ℕ
   cs = filter (stays q.in_flow q.kind q.new.start) (reverse s.layout.levels.items)
 
@@ -216,7 +216,7 @@ module _ (H : List Laid) (s : Scanner) (q : step_t) (c : CanRead H s q) where
             ends (Some h) v = ends_near H s (scanner_fault no_colon x.reach (Some in_simple_key) h.start) (stale_there h v) c.can.near f e l
 
 -- a lexeme that was read can be laid
-pub can_put : (H : List Laid) (s : Scanner) (q : step_t) (x : yaml_lexeme_t) → CanLayAll H s q x → CanPut H s (groups_in s) (met_in s q) q.in_flow q.new x
+pub can_put : (H : List Laid) (s : Scanner) (q : met_t) (x : yaml_lexeme_t) → CanLayAll H s q x → CanPut H s (groups_in s) (met_in s q) q.in_flow q.new x
 can_put H s q x w = let c = w.can in record {
   can = record { holds = c.can.holds; running = c.can.running; small = c.can.small; few_steps = (let f = c.can.few_steps in omega arith); met = c.met };
   level = q.context.level;

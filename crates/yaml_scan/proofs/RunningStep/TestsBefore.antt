@@ -129,6 +129,11 @@ module _ (H : List Laid) (n : ℕ) (s : Scanner) {ys : List group_t} (r : HoldsW
     row_not_lost : (root l : Option Held) → root ≡ held s.limit H 0 → l ≡ lost_held s.limit g root → l ≡ None → step S s.limit H ≡ kind_from g (S.kind (nat_lt 0 (depth H)) P)
     row_not_lost root l e k q = step_is ∙ kept_row (stale s.limit H g) l g P _ (stale_is root l e k) q
 
+    -- whether a key is allowed there
+    pub allows_there : (s.allowed || (not in_flow && nat_lt s.reach.line g.line)) ≡ allowed H g
+    unfolding allowed
+    allows_there = rw (r.keys.allowed, r.reach, block_is) refl
+
     module _ (root l : Option Held) (e : root ≡ held s.limit H 0) (k : l ≡ lost_held s.limit g root) (q : l ≡ None) (o : Option Kind) (K : o ≡ S.kind in_flow P) where
       pub kind_is : o ≡ S.kind (nat_lt 0 (depth H)) P
       kind_is = K ∙ ap (λ (b : Bool). S.kind b P) flow_is
@@ -139,8 +144,7 @@ module _ (H : List Laid) (n : ℕ) (s : Scanner) {ys : List group_t} (r : HoldsW
 
       module _ (kind : Kind) (some : o ≡ Some kind) (a : Bool) (A : a ≡ (s.allowed || (not in_flow && nat_lt s.reach.line g.line))) where
         pub allowed_is : a ≡ allowed H g
-        unfolding allowed
-        allowed_is = A ∙ (rw (r.keys.allowed, r.reach, block_is) refl)
+        allowed_is = A ∙ allows_there
 
         step_kind : step S s.limit H ≡ kind_from g (Some kind)
         step_kind = row_not_lost root l e k q ∙ ap (λ (x : Option Kind). kind_from g x) (sym kind_is ∙ some)

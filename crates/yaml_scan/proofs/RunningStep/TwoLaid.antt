@@ -9,9 +9,9 @@ use Rattle.yaml_lexeme.specs.Lexeme.{Lexeme as yaml_lexeme_t}
 use Rattle.yaml_lexeme.specs.Counted.{IsMarkOf}
 use Rattle.yaml_scan.specs.Course.{ended}
 use Rattle.yaml_scan.specs.declared.groups.group_t.{group_t}
-use Rattle.yaml_scan.specs.declared.depth.slots_t.{slots_t}
-use Rattle.yaml_scan.specs.declared.levels.layout_t.{layout_t}
-use Rattle.yaml_scan.specs.declared.kind.step_t.{step_t}
+use Rattle.yaml_scan.specs.declared.slots.slots_t.{slots_t}
+use Rattle.yaml_scan.specs.declared.layout.layout_t.{layout_t}
+use Rattle.yaml_scan.specs.declared.met.met_t.{met_t}
 use Rattle.yaml_scan.specs.inside.Scanner.{Scanner}
 use Rattle.yaml_scan.specs.Allowed.{allowed_after, allows}
 use Rattle.yaml_scan.specs.Depth.{depth}
@@ -60,7 +60,7 @@ pub allows_same : (f : Bool) (k : Kind) (n : ℕ) (none b : Bool) → decides f 
 allows_same f k n none b e = rw (decider_not_plain f k e) refl
 
 -- a lexeme that was met and read
-module _ (H : List Laid) (s : Scanner) (r : step_t) (x : yaml_lexeme_t) (c : CanLayAll H s r x) (q : is_candidate_kind r.kind ≡ true) where
+module _ (H : List Laid) (s : Scanner) (r : met_t) (x : yaml_lexeme_t) (c : CanLayAll H s r x) (q : is_candidate_kind r.kind ≡ true) where
   abbrev cs : List ℕ
   cs = reverse s.layout.levels.items
 
@@ -90,22 +90,22 @@ module _ (H : List Laid) (s : Scanner) (r : step_t) (x : yaml_lexeme_t) (c : Can
 
 -- ONE AFTER THE OTHER
 -- the scanner after the lexeme x of the step r, with the candidate of its depth and the step that is awaited
-abbrev pub between_of : Scanner → step_t → yaml_lexeme_t → Option Held → ℕ → layout_t → Scanner
+abbrev pub between_of : Scanner → met_t → yaml_lexeme_t → Option Held → ℕ → layout_t → Scanner
 between_of s r x top awaited L = put_in s (record { outer = s.slots.outer; not_simple_keys = s.slots.not_simple_keys; top = top; awaited = awaited }) (is_plain r.kind && x.passed_break) L x.reach
 
 -- the lexeme of kind k right after it
-abbrev pub met_after : step_t → yaml_lexeme_t → Kind → Met
+abbrev pub met_after : met_t → yaml_lexeme_t → Kind → Met
 met_after r x k = record { kind = k; gap_end = x.reach; allowed = (is_plain r.kind && x.passed_break) || (not r.in_flow && nat_lt x.reach.line x.reach.line) }
 
 -- the greatest level that it keeps
-abbrev pub level_after : step_t → Kind → yaml_mark_t → layout_t → Option ℕ
+abbrev pub level_after : met_t → Kind → yaml_mark_t → layout_t → Option ℕ
 level_after r k gap_end L = greatest_level (filter (stays r.in_flow k gap_end) (reverse L.levels.items))
 
 -- what is left of it
-abbrev pub new_after : Scanner → step_t → Kind → yaml_mark_t → layout_t → Held
+abbrev pub new_after : Scanner → met_t → Kind → yaml_mark_t → layout_t → Held
 new_after s r k gap_end L = record { step = s.made + 1 + 1; start = gap_end; required = is_level r.in_flow (level_after r k gap_end L) gap_end.column }
 
-module _ (H : List Laid) (s : Scanner) (r : step_t) (x : yaml_lexeme_t) (c : CanLayAll H s r x) (k : Kind) (y : yaml_lexeme_t) (top : Option Held) (awaited : ℕ) (L : layout_t) (zs : List group_t)
+module _ (H : List Laid) (s : Scanner) (r : met_t) (x : yaml_lexeme_t) (c : CanLayAll H s r x) (k : Kind) (y : yaml_lexeme_t) (top : Option Held) (awaited : ℕ) (L : layout_t) (zs : List group_t)
     (first : IsLaidAs H s r.kind (between_of s r x top awaited L) zs) (LAST : is_stream_end r.kind ≡ false) (D : (p : ℕ) → IsMarkOf s.text.chars x.reach p → IsDecider s.text.chars r.in_flow p k y)
     (none : Bool) (C : is_some (completed_held k s.limit x.reach top) ≡ not none) (OK : IsRefused (if not r.in_flow && not (met_after r x k).allowed then problem_of k none else None) x.reach None)
     (NOW : lost_held s.limit x.reach (root_of s.slots.outer.items top) ≡ None) (LATER : lost_held s.limit y.reach (root_of s.slots.outer.items None) ≡ None) where

@@ -11,8 +11,8 @@ use Rattle.yaml_lexeme.specs.Counted.{IsMarkOf}
 use Rattle.yaml_lexeme.specs.Decider.{decides, one_on}
 use Rattle.yaml_scan.specs.declared.groups.block_t.TheVariants.{NONE}
 use Rattle.yaml_scan.specs.declared.groups.group_t.{group_t}
-use Rattle.yaml_scan.specs.declared.depth.slots_t.{slots_t}
-use Rattle.yaml_scan.specs.declared.kind.step_t.{step_t}
+use Rattle.yaml_scan.specs.declared.slots.slots_t.{slots_t}
+use Rattle.yaml_scan.specs.declared.met.met_t.{met_t}
 use Rattle.yaml_scan.specs.inside.Scanner.{Scanner}
 use Rattle.yaml_scan.specs.Allowed.{allows}
 use Rattle.yaml_scan.specs.Kind.{Kind, is_candidate_kind, is_flow_end, is_flow_start, is_stream_end, is_value}
@@ -122,18 +122,18 @@ live_before limit m h e =
     and_from _ _ (eq-eqb _ _ s) (le-leb _ _ u)
 
 -- WHAT COMES RIGHT AFTER A LEXEME
-pub follower : (s : Scanner) (sparing : Bool) (r : step_t) (at : yaml_mark_t) (w : Bool) (k : Kind) (x : yaml_lexeme_t) → IsFollowed s sparing r at w → ((p : ℕ) → IsMarkOf s.text.chars at p → IsDecider s.text.chars r.in_flow p k x) → x.reach ≡ one_on at → x.reach.index < s.near
+pub follower : (s : Scanner) (sparing : Bool) (r : met_t) (at : yaml_mark_t) (w : Bool) (k : Kind) (x : yaml_lexeme_t) → IsFollowed s sparing r at w → ((p : ℕ) → IsMarkOf s.text.chars at p → IsDecider s.text.chars r.in_flow p k x) → x.reach ≡ one_on at → x.reach.index < s.near
     → (w ≡ true → (h : Held) × ((slice_get s.slots.outer.items s.slots.not_simple_keys ≡ Some (Some h)) × (is_live s.limit x.reach h ≡ true))) → IsFollower s sparing r at w k x
 follower s sparing r at true k x f d m l o = record { waits = f; reach = m; outer = o refl; decider = d; far = l }
 follower s sparing r at false k x f d m l o = record { undecided = f; decider = d; far = l }
 
 -- the lexeme is a candidate
-pub followed_kind : (s : Scanner) (sparing : Bool) (r : step_t) (at : yaml_mark_t) (w : Bool) → IsFollowed s sparing r at w → is_candidate_kind r.kind ≡ true
+pub followed_kind : (s : Scanner) (sparing : Bool) (r : met_t) (at : yaml_mark_t) (w : Bool) → IsFollowed s sparing r at w → is_candidate_kind r.kind ≡ true
 followed_kind s sparing r at true f = f.candidate
 followed_kind s sparing r at false f = f.candidate
 
 -- what comes right after a lexeme enters no depth
-pub follower_no_start : (H : List Laid) (s : Scanner) (r : step_t) (x : yaml_lexeme_t) → CanLayAll H s r x → (sparing w : Bool) (k : Kind) (y : yaml_lexeme_t) → IsFollower s sparing r x.reach w k y → is_flow_start k ≡ false
+pub follower_no_start : (H : List Laid) (s : Scanner) (r : met_t) (x : yaml_lexeme_t) → CanLayAll H s r x → (sparing w : Bool) (k : Kind) (y : yaml_lexeme_t) → IsFollower s sparing r x.reach w k y → is_flow_start k ≡ false
 follower_no_start H s r x c sparing true k y f =
     let i = read_place H s r x c f.waits.candidate in
     decider_no_start r.in_flow k (f.decider i.0 i.1).decides
@@ -142,7 +142,7 @@ follower_no_start H s r x c sparing false k y f =
     decider_no_start r.in_flow k (f.decider i.0 i.1).decides
 
 -- BOTH
-module _ (H : List Laid) (s : Scanner) (r : step_t) (x : yaml_lexeme_t) (c : CanLayAll H s r x) (k : Kind) (y : yaml_lexeme_t) (d : IsWaiting s r x.reach k y) where
+module _ (H : List Laid) (s : Scanner) (r : met_t) (x : yaml_lexeme_t) (c : CanLayAll H s r x) (k : Kind) (y : yaml_lexeme_t) (d : IsWaiting s r x.reach k y) where
   abbrev h : Holds H (s.made + 1) s
   h = c.can.can.holds
 

@@ -1,9 +1,9 @@
 -- What the key slots, the open levels and the queue of a running scanner hold after the lexemes H.
 use Rattle.std.specs.Prelude.{◌≡◌, ℕ, ◌+◌, Bool, false, List, [], ◌∷◌, ◌++◌, reverse, drop, length, None}
 use Rattle.yaml_text.specs.declared.types.yaml_encoding_t.{yaml_encoding_t}
-use Rattle.yaml_scan.specs.declared.depth.slots_t.{slots_t}
+use Rattle.yaml_scan.specs.declared.slots.slots_t.{slots_t}
 use Rattle.yaml_scan.specs.declared.groups.group_t.{group_t}
-use Rattle.yaml_scan.specs.declared.groups.queue_t.{queue_t}
+use Rattle.yaml_scan.specs.declared.queue.queue_t.{queue_t}
 use Rattle.yaml_scan.specs.Course.{ended}
 use Rattle.yaml_scan.specs.Laid.{Laid, reach}
 use Rattle.yaml_scan.specs.Depth.{depth}

@@ -10,7 +10,7 @@ use Rattle.yaml_scan.specs.declared.groups.block_t.TheVariants.{NONE, SEQUENCE, 
 use Rattle.yaml_scan.specs.declared.groups.lead_t.{lead_t}
 use Rattle.yaml_scan.specs.declared.groups.lead_t.TheVariants.{NOTHING, END, SEQUENCE_START, MAPPING_START, KEY}
 use Rattle.yaml_scan.specs.declared.groups.group_t.{group_t}
-use Rattle.yaml_scan.specs.declared.groups.queue_t.{queue_t}
+use Rattle.yaml_scan.specs.declared.queue.queue_t.{queue_t}
 use Rattle.yaml_scan.specs.Kind.{Kind, is_block_entry}
 use Rattle.yaml_scan.specs.Token.{yaml_token_t}
 use Rattle.yaml_scan.specs.Levels.{stays, opens_level}

@@ -9,8 +9,8 @@ use Rattle.yaml_text.specs.declared.fault.yaml_fault_t.{yaml_fault_t}
 use Rattle.yaml_text.specs.Fault.{Fault, memory_fault, zero_mark, fault_of}
 use Rattle.yaml_scan.specs.Course.{Course, course}
 use Rattle.yaml_scan.specs.inside.Scanner.{Scanner, scanner_of}
-use Rattle.yaml_scan.specs.declared.depth.slots_t.{slots_t}
-use Rattle.yaml_scan.specs.declared.levels.layout_t.{layout_t}
+use Rattle.yaml_scan.specs.declared.slots.slots_t.{slots_t}
+use Rattle.yaml_scan.specs.declared.layout.layout_t.{layout_t}
 use Rattle.yaml_scan.specs.declared.session.session_t.{session_t}
 use Rattle.yaml_text.specs.Token.{token_of}
 use Rattle.yaml_scan.specs.KeyLimits.{most_key_limit}

@@ -4,9 +4,9 @@ use Rattle.std.specs.declared.alloc.Global.{Global}
 use Rattle.yaml_text.specs.Text.{Text}
 use Rattle.yaml_text.specs.declared.fault.yaml_fault_t.{yaml_fault_t}
 use Rattle.yaml_text.specs.declared.types.yaml_mark_t.{yaml_mark_t}
-use Rattle.yaml_scan.specs.declared.levels.layout_t.{layout_t}
-use Rattle.yaml_scan.specs.declared.depth.slots_t.{slots_t}
-use Rattle.yaml_scan.specs.declared.scanner.state_t.{state_t}
+use Rattle.yaml_scan.specs.declared.layout.layout_t.{layout_t}
+use Rattle.yaml_scan.specs.declared.slots.slots_t.{slots_t}
+use Rattle.yaml_scan.specs.declared.state.state_t.{state_t}
 
 pub record Scanner : Type 0 where
   pub alloc : Global

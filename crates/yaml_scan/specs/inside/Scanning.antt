@@ -24,9 +24,9 @@ use Rattle.yaml_scan.specs.inside.StepParts.{read_step}
 use Rattle.yaml_scan.specs.Course.{ended, oldest, Input, Course, course, next}
 use Rattle.yaml_scan.specs.declared.stop.stop_t.{stop_t}
 use Rattle.yaml_scan.specs.declared.groups.group_t.{group_t}
-use Rattle.yaml_scan.specs.declared.kind.step_t.{step_t}
+use Rattle.yaml_scan.specs.declared.met.met_t.{met_t}
 use Rattle.yaml_scan.specs.inside.Scanner.{Scanner}
-use Rattle.yaml_scan.specs.declared.depth.slots_t.{slots_t}
+use Rattle.yaml_scan.specs.declared.slots.slots_t.{slots_t}
 use Rattle.yaml_scan.specs.Kind.{Kind, is_candidate_kind, is_flow_start}
 use Rattle.yaml_scan.specs.Source.{Source, Offence}
 use Rattle.yaml_scan.specs.SourceOf.{source_of}
@@ -91,7 +91,7 @@ pub record Met : Type 0 where
   pub allowed : Bool
 
 -- what a step has met
-abbrev pub met_in : Scanner → step_t → Met
+abbrev pub met_in : Scanner → met_t → Met
 met_in s r = record { kind = r.kind; gap_end = s.gap_end; allowed = r.allowed }
 
 -- the kind of lexeme that was found after the gap
@@ -174,7 +174,7 @@ pub record CanPut
   pub none_lost : lost_after s.limit s.slots m new x.reach ≡ None
 
 -- a lexeme that was met can be read, and there is room for it
-pub record CanRead (H : List Laid) (s : Scanner) (r : step_t) : Type 0 where
+pub record CanRead (H : List Laid) (s : Scanner) (r : met_t) : Type 0 where
   pub can : CanStep H s
   pub met : IsMet H s (met_in s r)
   pub is_new : IsNewHeld s (met_in s r) r.in_flow r.context.level r.new
@@ -213,7 +213,7 @@ IsReadIn s k x there (Err r) = (p : ℕ) → IsMarkOf s.text.chars s.gap_end p
     → (r ≡ MEMORY) ⊎ IsOffence s.text.chars k x.depth x.level p (refused_at k s.gap_end there r)
 
 -- A step has to stop after the lexeme x, which was read to `there`.
-pub record StopsAfter (H : List Laid) (s : Scanner) (r : step_t) (x : yaml_lexeme_t) : Type 0 where
+pub record StopsAfter (H : List Laid) (s : Scanner) (r : met_t) (x : yaml_lexeme_t) : Type 0 where
   pub can : CanRead H s r
   pub read : IsRead s.text.chars r.kind (vec_len s.slots.outer) r.context.level (gap_end_of (text_of s) H) x
   pub there : s.there ≡ x.reach
@@ -268,7 +268,7 @@ pub record AdvancesWith (H : List Laid) (s t : Scanner) (zs : List group_t) : Ty
 
 -- The token of a lexeme that was met needs what comes after it, if it is read to `at`: it is a candidate, and no other
 -- token is queued. If sparing, it closes no level, so its token is the next one. There is room for two groups.
-pub record IsUndecided (s : Scanner) (sparing : Bool) (r : step_t) (at : yaml_mark_t) : Type 0 where
+pub record IsUndecided (s : Scanner) (sparing : Bool) (r : met_t) (at : yaml_mark_t) : Type 0 where
   pub candidate : is_candidate_kind r.kind ≡ true
   pub stays : is_flow_start r.kind ≡ false
   pub allowed : r.allowed ≡ true
@@ -279,14 +279,14 @@ pub record IsUndecided (s : Scanner) (sparing : Bool) (r : step_t) (at : yaml_ma
 
 -- the lexeme x, of kind k, which comes right there, decides whether it is a key
 pub record IsDecided
-    (s : Scanner) (sparing : Bool) (r : step_t) (at : yaml_mark_t) (k : Kind) (x : yaml_lexeme_t)
+    (s : Scanner) (sparing : Bool) (r : met_t) (at : yaml_mark_t) (k : Kind) (x : yaml_lexeme_t)
     : Type 0 where
   pub undecided : IsUndecided s sparing r at
   pub decider : (p : ℕ) → IsMarkOf s.text.chars at p → IsDecider s.text.chars r.in_flow p k x
   pub far : x.reach.index < s.near
 
 -- a lexeme in flow that was met and read to `at` has to wait until an earlier candidate is decided, and one more may
-pub record Waits (s : Scanner) (r : step_t) (at : yaml_mark_t) : Type 0 where
+pub record Waits (s : Scanner) (r : met_t) (at : yaml_mark_t) : Type 0 where
   pub flow : r.in_flow ≡ true
   pub candidate : is_candidate_kind r.kind ≡ true
   pub stays : is_flow_start r.kind ≡ false
@@ -298,7 +298,7 @@ pub record Waits (s : Scanner) (r : step_t) (at : yaml_mark_t) : Type 0 where
   pub none : r.allowed ≡ false → s.slots.top ≡ None
 
 -- a lexeme read to `at` and x, of kind k, right after it wait until an outer candidate, live after x, is decided
-pub record IsWaiting (s : Scanner) (r : step_t) (at : yaml_mark_t) (k : Kind) (x : yaml_lexeme_t) : Type 0 where
+pub record IsWaiting (s : Scanner) (r : met_t) (at : yaml_mark_t) (k : Kind) (x : yaml_lexeme_t) : Type 0 where
   pub waits : Waits s r at
   pub reach : x.reach ≡ one_on at
   pub outer : (h : Held) × ((slice_get s.slots.outer.items s.slots.not_simple_keys ≡ Some (Some h))
@@ -307,17 +307,17 @@ pub record IsWaiting (s : Scanner) (r : step_t) (at : yaml_mark_t) (k : Kind) (x
   pub far : x.reach.index < s.near
 
 -- the next token needs what comes right after the lexeme of a step, since that has to wait, or since it is a candidate
-abbrev pub IsFollowed : Scanner → Bool → step_t → yaml_mark_t → Bool → Type 0
+abbrev pub IsFollowed : Scanner → Bool → met_t → yaml_mark_t → Bool → Type 0
 IsFollowed s sparing r at true = Waits s r at
 IsFollowed s sparing r at false = IsUndecided s sparing r at
 
 -- the lexeme x, of kind k, comes right after that of a step, which was read to `at`, and both can be laid together
-abbrev pub IsFollower : Scanner → Bool → step_t → yaml_mark_t → Bool → Kind → yaml_lexeme_t → Type 0
+abbrev pub IsFollower : Scanner → Bool → met_t → yaml_mark_t → Bool → Kind → yaml_lexeme_t → Type 0
 IsFollower s sparing r at true k x = IsWaiting s r at k x
 IsFollower s sparing r at false k x = IsDecided s sparing r at k x
 
 -- a lexeme that was read can be laid, alone or with what comes right after it
-pub record CanLayAll (H : List Laid) (s : Scanner) (r : step_t) (x : yaml_lexeme_t) : Type 0 where
+pub record CanLayAll (H : List Laid) (s : Scanner) (r : met_t) (x : yaml_lexeme_t) : Type 0 where
   pub can : CanRead H s r
   pub read : (p : ℕ) → IsMarkOf s.text.chars s.gap_end p
       → IsRead s.text.chars r.kind r.context.depth r.context.level p x

@@ -7,7 +7,7 @@ use Rattle.yaml_scan.specs.Laid.{Laid, names, reach}
 use Rattle.yaml_scan.specs.Keys.{candidate, only_live}
 use Rattle.yaml_scan.specs.Levels.{is_required}
 -- what is kept of a candidate: the number of its step, its start, and whether it is required
-pub use Rattle.yaml_scan.specs.declared.depth.candidate_t.{candidate_t as Held}
+pub use Rattle.yaml_scan.specs.declared.keys.candidate_t.{candidate_t as Held}
 
 -- the first lexeme is step 2, after STREAM-START
 abbrev pub held_of : Laid → Held

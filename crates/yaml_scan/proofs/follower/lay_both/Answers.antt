@@ -20,8 +20,8 @@ lay_levels-ends-requires-clause-falls g c = λ n.
     let q = c.requires.1.3 in
     let k = c.args.decider.now.kind in
     let y = lexeme_of c.args.decider.now.lexeme in
-    let d : IsDecided s q.0 c.args.step c.args.at k y = subst (λ (w : Bool). IsFollower s q.0 c.args.step c.args.at w k y) n q.1 in
-    decided.falls g.before s c.args.step x r.1 q.0 k y (subst (λ (m : yaml_mark_t). IsDecided s q.0 c.args.step m k y) (sym r.0) d)
+    let d : IsDecided s q.0 c.args.read.met c.args.read.reach k y = subst (λ (w : Bool). IsFollower s q.0 c.args.read.met c.args.read.reach w k y) n q.1 in
+    decided.falls g.before s c.args.read.met x r.1 q.0 k y (subst (λ (m : yaml_mark_t). IsDecided s q.0 c.args.read.met m k y) (sym r.0) d)
 
 pub drop_candidate-requires : goal.drop_candidate-requires
 drop_candidate-requires g c =
@@ -32,15 +32,15 @@ drop_candidate-requires g c =
     let w = (not (nat_eq g.row.WAITS 0)) in
     let k = c.args.decider.now.kind in
     let y = lexeme_of c.args.decider.now.lexeme in
-    waiting.follower_no_start g.before s c.args.step x r.1 q.0 w k y (subst (λ (m : yaml_mark_t). IsFollower s q.0 c.args.step m w k y) (sym r.0) q.1)
+    waiting.follower_no_start g.before s c.args.read.met x r.1 q.0 w k y (subst (λ (m : yaml_mark_t). IsFollower s q.0 c.args.read.met m w k y) (sym r.0) q.1)
 
 pub returns-clause-laid : goal.returns-clause-laid
 returns-clause-laid g c = λ X sparing d b e passed t z p F T Z.
     let s = (scanner_of X c.args.state.now) in
-    let r = c.args.step in
+    let r = c.args.read.met in
     let k = c.args.decider.now.kind in
     let y = lexeme_of c.args.decider.now.lexeme in
-    let x = read_to d b e c.args.at passed in
+    let x = read_to d b e c.args.read.reach passed in
     let v = c.drop_candidate.ensures in
     let new = c.drop_candidate.new.self in
     let levels = c.lay_levels-ends.ensures in
@@ -49,7 +49,7 @@ returns-clause-laid g c = λ X sparing d b e passed t z p F T Z.
     let a = c.is_allowed_after-state.result in
     elim (cases_Bool (not (nat_eq g.row.WAITS 0))) [
       | inl w ↦
-          let f : IsWaiting s r c.args.at k y = subst (λ (i : Bool). IsFollower s sparing r c.args.at i k y) w F in
+          let f : IsWaiting s r c.args.read.reach k y = subst (λ (i : Bool). IsFollower s sparing r c.args.read.reach i k y) w F in
           let l = levels.same w in
           let allowed : c.is_key-key.result ≡ (r.allowed && is_value k) = key ∙ ap (λ (i : Bool). (not i || r.allowed) && is_value k) w in
           let empty : new.not_simple_keys ≡ s.slots.not_simple_keys = v.empty ∙ ap (λ (i : Bool). if i then s.slots.not_simple_keys else vec_len new.outer) w in
@@ -58,7 +58,7 @@ returns-clause-laid g c = λ X sparing d b e passed t z p F T Z.
           _ (λ i. groups_in s ++ group_with (l.1 i) (l.2 i) (allowed i) t ∷ (lone z ∷ []))
           _ (λ i. put_in (counted s) new a (record { levels = l.0 i; queue = s.layout.queue }) y.reach))
       | inr w ↦
-          let f : IsDecided s sparing r c.args.at k y = subst (λ (i : Bool). IsFollower s sparing r c.args.at i k y) w F in
+          let f : IsDecided s sparing r c.args.read.reach k y = subst (λ (i : Bool). IsFollower s sparing r c.args.read.reach i k y) w F in
           let l = levels.levels w in
           let u = f.undecided in
           let colon : c.is_key-key.result ≡ is_value k = key ∙ ap (λ (i : Bool). (not i || r.allowed) && is_value k) w in

@@ -14,11 +14,11 @@ use Rattle.yaml_scan.proofs.follower.lay_candidate.Goals as goal
 use Rattle.yaml_scan.proofs.follower.lay_candidate.Goals.{then-key, else-key}
 
 pub is_new_level-opens-requires : goal.is_new_level-opens-requires
-is_new_level-opens-requires c = let r = c.args.step in let e = c.close_levels-closed.ensures in
+is_new_level-opens-requires c = let r = c.args.met in let e = c.close_levels-closed.ensures in
     rw (c.deref.ensures.value, e.levels) (filter_falls (stays r.in_flow r.kind r.new.start) (reverse c.args.levels.now.items) c.requires.falls)
 
 pub returns-clause-ends : goal.returns-clause-ends
-returns-clause-ends c = let r = c.args.step in let e = c.close_levels-closed.ensures in
+returns-clause-ends c = let r = c.args.met in let e = c.close_levels-closed.ensures in
     let n = e.none c.requires.last in
     let w : ends_at c.close_levels-closed.result.early r.new.start ++ ends_at c.close_levels-closed.result.ends r.new.start ≡ map (λ z. BlockEnd (end_at r.kind r.new.start r.new.start z)) (filter (λ z. not (stays r.in_flow r.kind r.new.start z)) (reverse c.args.levels.now.items)) = e.ends in
     rw (n, c.requires.last) at w
@@ -26,7 +26,7 @@ returns-clause-ends c = let r = c.args.step in let e = c.close_levels-closed.ens
 pub returns-clause-levels : goal.returns-clause-levels
 returns-clause-levels c =
     let e = c.close_levels-closed.ensures in
-    let r = c.args.step in
+    let r = c.args.met in
     let cs : List ℕ = reverse c.close_levels-closed.new.levels.items in
     let o : c.if-key.opens ≡ (c.args.key && is_new r.in_flow r.new.start.column cs) = elim c.if-key.branch [
       | then-key w ↦ w.opens-is ∙ w.is_new_level-opens.ensures ∙ ap (λ (l : List ℕ). is_new r.in_flow r.new.start.column (reverse l)) w.deref.ensures.value ∙ (rw w.if-key.true refl)
@@ -40,7 +40,7 @@ returns-clause-levels c =
 
 pub returns-clause-few : goal.returns-clause-few
 returns-clause-few c =
-    let r = c.args.step in
+    let r = c.args.met in
     let e = c.close_levels-closed.ensures in
     let n = e.none c.requires.last in
     let cs : List ℕ = reverse c.args.levels.now.items in

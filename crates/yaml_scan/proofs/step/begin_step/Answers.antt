@@ -1,30 +1,30 @@
-use Rattle.std.proofs.Common.{◌+◌, ◌∙◌, Bool, arith, inl, rules, subst}
-use Rattle.yaml_scan.specs.declared.scanner.state_t.{state_t}
+use Rattle.std.proofs.Common.{◌+◌, ◌∙◌, arith, inl, rules, subst}
+use Rattle.yaml_scan.specs.declared.state.state_t.{state_t}
 use Rattle.yaml_scan.specs.inside.Scanner.{scanner_of}
-use Rattle.yaml_scan.specs.inside.Scanning.{Beside, IsMet, Stays}
+use Rattle.yaml_scan.specs.inside.Scanning.{Beside, Stays}
 use Rattle.yaml_scan.proofs.RunningStep.StepTests.{falls_in, gap_end_line}
 use Rattle.yaml_scan.proofs.RunningStep.StepMoves.{ready, stays_same}
 use Rattle.yaml_scan.proofs.step.begin_step.Goals as goal
 
-pub step_of-requires-clause-falls : goal.step_of-requires-clause-falls
-step_of-requires-clause-falls g c = let w = c.requires.passes in let b = subst (λ (u : state_t). Beside (scanner_of c.args.text.now u) (scanner_of c.args.text.now c.ensure_room.new.state)) c.in-Ok.ensures.1 (c.in-Ok-ensure_room.ensures c.args.text.now).1 in rw b.levels (falls_in g.before (c.args.state.now.made + 1) (scanner_of c.args.text.now c.args.state.now) w.can.holds)
+pub met_of-requires-clause-falls : goal.met_of-requires-clause-falls
+met_of-requires-clause-falls g c = let w = c.requires.passes in let b = subst (λ (u : state_t). Beside (scanner_of c.args.text.now u) (scanner_of c.args.text.now c.ensure_room.new.state)) c.in-Ok.ensures.1 (c.in-Ok-ensure_room.ensures c.args.text.now).1 in rw b.levels (falls_in g.before (c.args.state.now.made + 1) (scanner_of c.args.text.now c.args.state.now) w.can.holds)
 
-pub step_of-requires-clause-line : goal.step_of-requires-clause-line
-step_of-requires-clause-line g c = let w = c.requires.passes in let b = subst (λ (u : state_t). Beside (scanner_of c.args.text.now u) (scanner_of c.args.text.now c.ensure_room.new.state)) c.in-Ok.ensures.1 (c.in-Ok-ensure_room.ensures c.args.text.now).1 in let l = gap_end_line g.before (scanner_of c.args.text.now c.args.state.now) w.can.small w.gap_end in rw b.gap_end l
+pub met_of-requires-clause-line : goal.met_of-requires-clause-line
+met_of-requires-clause-line g c = let w = c.requires.passes in let b = subst (λ (u : state_t). Beside (scanner_of c.args.text.now u) (scanner_of c.args.text.now c.ensure_room.new.state)) c.in-Ok.ensures.1 (c.in-Ok-ensure_room.ensures c.args.text.now).1 in let l = gap_end_line g.before (scanner_of c.args.text.now c.args.state.now) w.can.small w.gap_end in rw b.gap_end l
 
 pub returns-in-Ok-ensure_room : goal.returns-in-Ok-ensure_room
-returns-in-Ok-ensure_room g c = let s = (scanner_of c.args.text.now c.args.state.now) in let t = (scanner_of c.args.text.now c.ensure_room.new.state) in let r = c.step_of.ensures in let b = subst (λ (u : state_t). Beside (scanner_of c.args.text.now u) (scanner_of c.args.text.now c.ensure_room.new.state)) c.in-Ok.ensures.1 (c.in-Ok-ensure_room.ensures c.args.text.now).1 in (
-  ready g.before s t c.args.in_flow c.args.kind c.requires (subst (λ (a : Bool). IsMet g.before s (record { kind = c.args.kind; gap_end = s.gap_end; allowed = a })) c.is_key_allowed-allowed.ensures c.in-Ok.ensures.0) b
-      c.step_of.result (rw (r.flow, r.kind) (c.in-Ok-ensure_room.ensures c.args.text.now).0) r.kind (r.allowed ∙ c.is_key_allowed-allowed.ensures) (r.new c.args.text.now) r.depth,
+returns-in-Ok-ensure_room g c = let s = (scanner_of c.args.text.now c.args.state.now) in let t = (scanner_of c.args.text.now c.ensure_room.new.state) in let r = c.met_of.ensures in let b = subst (λ (u : state_t). Beside (scanner_of c.args.text.now u) (scanner_of c.args.text.now c.ensure_room.new.state)) c.in-Ok.ensures.1 (c.in-Ok-ensure_room.ensures c.args.text.now).1 in (
+  ready g.before s t c.args.in_flow c.args.kind c.requires c.in-Ok.ensures.0 b
+      c.met_of.result (rw (r.flow, r.kind) (c.in-Ok-ensure_room.ensures c.args.text.now).0) r.kind (r.allowed ∙ c.is_key_allowed-allowed.ensures) (r.new c.args.text.now) r.depth,
   r.kind,
   stays_same s t b,
 )
 
-pub step_of-requires-clause-flow : goal.step_of-requires-clause-flow
-step_of-requires-clause-flow g c = let w = c.requires.passes in let b = subst (λ (u : state_t). Beside (scanner_of c.args.text.now u) (scanner_of c.args.text.now c.ensure_room.new.state)) c.in-Ok.ensures.1 (c.in-Ok-ensure_room.ensures c.args.text.now).1 in rw b.depth w.flow
+pub met_of-requires-clause-flow : goal.met_of-requires-clause-flow
+met_of-requires-clause-flow g c = let w = c.requires.passes in let b = subst (λ (u : state_t). Beside (scanner_of c.args.text.now u) (scanner_of c.args.text.now c.ensure_room.new.state)) c.in-Ok.ensures.1 (c.in-Ok-ensure_room.ensures c.args.text.now).1 in rw b.depth w.flow
 
-pub step_of-requires-clause-made : goal.step_of-requires-clause-made
-step_of-requires-clause-made g c = let w = c.requires.passes in let b = subst (λ (u : state_t). Beside (scanner_of c.args.text.now u) (scanner_of c.args.text.now c.ensure_room.new.state)) c.in-Ok.ensures.1 (c.in-Ok-ensure_room.ensures c.args.text.now).1 in let m = b.made in let f = w.can.few_steps in omega arith
+pub met_of-requires-clause-made : goal.met_of-requires-clause-made
+met_of-requires-clause-made g c = let w = c.requires.passes in let b = subst (λ (u : state_t). Beside (scanner_of c.args.text.now u) (scanner_of c.args.text.now c.ensure_room.new.state)) c.in-Ok.ensures.1 (c.in-Ok-ensure_room.ensures c.args.text.now).1 in let m = b.made in let f = w.can.few_steps in omega arith
 
 pub returns-in-Err-ensure_room : goal.returns-in-Err-ensure_room
 returns-in-Err-ensure_room g c = let e = c.in-Err-ensure_room.ensures c.args.text.now in

@@ -6,7 +6,7 @@ use Rattle.yaml_scan.proofs.step.step_stream_end.Goals as goal
 
 pub end_queued-requires : goal.end_queued-requires
 end_queued-requires g c = let b = c.in-Ok.ensures in
-    (b.0, read_as_met (scanner_of c.args.text.now c.begin_step.new.state) STREAM_END c.in-Ok.step.kind c.in-Ok.step.context (lexeme_of c.read_stream_end-lexeme.result) b.1 c.read_stream_end-lexeme.ensures)
+    (b.0, read_as_met (scanner_of c.args.text.now c.begin_step.new.state) STREAM_END c.in-Ok.met.kind c.in-Ok.met.context (lexeme_of c.read_stream_end-lexeme.result) b.1 c.read_stream_end-lexeme.ensures)
 
 pub returns-in-Ok : goal.returns-in-Ok
 returns-in-Ok g c = let b = c.in-Ok.ensures in step_from g.before (scanner_of c.args.text.now c.args.state.now) (scanner_of c.args.text.now c.begin_step.new.state) (scanner_of c.args.text.now c.end_queued.new.state) c.end_queued.result b.2 c.end_queued.ensures

@@ -4,7 +4,7 @@ use Rattle.yaml_lexeme.specs.declared.problem.yaml_problem_t.{yaml_problem_t}
 use Rattle.yaml_lexeme.specs.declared.problem.yaml_refusal_t.{yaml_refusal_t}
 use Rattle.yaml_lexeme.specs.declared.problem.yaml_refusal_t.TheVariants.{OFFENCE}
 use Rattle.yaml_lexeme.specs.Answers.{refused_at}
-use Rattle.yaml_scan.specs.declared.kind.step_t.{step_t}
+use Rattle.yaml_scan.specs.declared.met.met_t.{met_t}
 use Rattle.yaml_scan.specs.inside.Scanner.{Scanner, scanner_of}
 use Rattle.yaml_scan.specs.Kind.{Kind}
 use Rattle.yaml_scan.specs.SourceOf.{source_of}
@@ -15,7 +15,7 @@ use Rattle.yaml_scan.specs.Laid.{Laid}
 use Rattle.yaml_scan.proofs.RunningStep.StepTests.{offence_there}
 use Rattle.yaml_scan.proofs.stop.stop_in_lexeme.Goals as goal
 
-offends : (H : List Laid) (s : Scanner) (q : step_t) (k : Kind) (r : yaml_refusal_t) (p : yaml_problem_t) → CanRead H s q → q.kind ≡ k → r ≡ OFFENCE p → IsReadIn s k q.context s.there (Err r) → Offends H s (refused_at k s.gap_end s.there r)
+offends : (H : List Laid) (s : Scanner) (q : met_t) (k : Kind) (r : yaml_refusal_t) (p : yaml_problem_t) → CanRead H s q → q.kind ≡ k → r ≡ OFFENCE p → IsReadIn s k q.context s.there (Err r) → Offends H s (refused_at k s.gap_end s.there r)
 offends H s q k r p c e o f = elim (f (gap_end_of (source_of s.text.chars) H) c.met.gap_end) [
   | inl m ↦ absurd (cc)
   | inr w ↦ offence_there H s q c (refused_at k s.gap_end s.there r) (subst (λ (z : Kind). IsOffence s.text.chars z q.context.depth q.context.level (gap_end_of (source_of s.text.chars) H) (refused_at k s.gap_end s.there r)) (sym e) w)

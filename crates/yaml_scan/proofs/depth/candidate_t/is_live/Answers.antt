@@ -1,5 +1,0 @@
-use Rattle.std.proofs.Common.{rules}
-use Rattle.yaml_scan.proofs.depth.candidate_t.is_live.Goals as goal
-
-pub returns-then-mark-self : goal.returns-then-mark-self
-returns-then-mark-self c = search rules

@@ -1,5 +1,0 @@
-use Rattle.std.proofs.Common.{rules}
-use Rattle.yaml_scan.proofs.keys.root_at.Goals as goal
-
-pub returns-then-in_flow : goal.returns-then-in_flow
-returns-then-in_flow c = search rules

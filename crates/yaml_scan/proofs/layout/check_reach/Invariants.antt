@@ -1,4 +1,0 @@
-use Rattle.yaml_scan.proofs.layout.check_reach.Given as goal
-
-abbrev pub ghost-stop_after : goal.ghost-stop_after
-ghost-stop_after g a = g.before

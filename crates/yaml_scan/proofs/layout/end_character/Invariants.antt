@@ -1,7 +1,0 @@
-use Rattle.yaml_scan.proofs.layout.end_character.Given as goal
-
-abbrev pub ghost-check_reach : goal.ghost-check_reach
-ghost-check_reach g a = g.before
-
-abbrev pub ghost-lay_alone : goal.ghost-lay_alone
-ghost-lay_alone g a = g.before

@@ -1,4 +1,0 @@
-use Rattle.yaml_scan.proofs.layout.lay_alone.Given as goal
-
-abbrev pub ghost-lay_lexeme : goal.ghost-lay_lexeme
-ghost-lay_lexeme g a = g.before
