@@ -2,8 +2,10 @@
 
 import glob
 import os
+import re
 
 TOP = os.path.dirname(os.path.dirname(os.path.dirname(os.path.abspath(__file__))))
+TEST = re.compile(r"^ *#\[test\]\n(?: *(?:#|//).*\n)* *fn (\w+)", re.M)  # a function that is a test
 
 
 def read(path):
