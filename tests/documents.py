@@ -4,8 +4,8 @@
 One line of output for each check; what is wrong is printed before it. The checks:
 
 - paths: what a document has in backticks or as a link, and looks like a path of the repository, is there. A `*` stands for
-  any name. Paths are from the repository's root, or from the document's folder; those of definitions, proofs and code may be
-  from any folder of a crate. What scripts write may be missing: bench/results.md, docs/speed.svg and what is in a folder `out`.
+  any name. Paths that begin with a folder of the root are from there, and others may be from any folder. What scripts write may
+  be missing: bench/results.md, docs/speed.svg, and what is in a folder of what is built.
 - rules: RULES.md begins with a link to each heading, and names each module of the three crates of the library. walks.py follows
   what stands under the headings.
 - edits: every must-fail edit has a line in edits.txt, and every line has its edit. A line of twins.txt is for an edit, and has
@@ -22,8 +22,7 @@ One line of output for each check; what is wrong is printed before it. The check
 - written: what `./dev folders` writes is what it would write now, and can be written: each file of a table begins with a
   sentence, each law has a comment, the order of what Headline.antt stands on has all that it reaches and no more, and the marks
   of a part are there once.
-- proofs: PROOFS.md has a link to the README.md of each folder of proofs that has one. The file beside a folder of lemmas has a line
-  `mod NAME` for each file there.
+- lemmas: the file beside a folder of lemmas has a line `mod NAME` for each file there.
 - picture: the picture in ARCHITECTURE.md has each crate once, with those that it uses; and each function in it is in the file of
   its module.
 - changes: each change of tests/changes.txt is in CONTRIBUTING.md with its title and its command, and no others are there. The
@@ -31,6 +30,7 @@ One line of output for each check; what is wrong is printed before it. The check
 - scripts: the table of tests/README.md has a line for each script of tests/, and no others.
 """
 
+import fnmatch
 import os
 import re
 import shutil
@@ -49,23 +49,14 @@ from written import stale
 
 DOCUMENTS = ["README.md", "CHANGELOG.md", "CONTRIBUTING.md", "docs/*.md", "tests/README.md", "tests/changes.txt", "bench/*.md",
              "uses/*/README.md", "ffi/README.md", "packaging/DECISIONS.md", "rust/README.md", "python/README.md",
-             "crates/*/README.md", "crates/*/proofs/README.md"]
+             "crates/*/README.md"]
 FOLDERS = ("bench", "crates", "docs", "ffi", "packaging", "python", "rust", "tests", "uses")
 ENDINGS = ("antt", "c", "css", "edit", "gz", "h", "html", "md", "py", "rs", "rt", "txt")
-OF_CRATES = ("antt", "rt")  # paths with these endings may be from a folder of a crate
-STAND_FOR_NAMES = {"FILE", "FUNCTION", "NAME", "Topic", "topic"}
-WRITTEN_BY_SCRIPTS = {"bench/results.md", "docs/speed.svg"}
+STAND_FOR_NAMES = {"FILE", "FUNCTION", "METHOD", "NAME", "TYPE", "Topic", "f", "topic"}
+BUILT = {"bin", "dist", "out", "target"}
+WRITTEN_BY_SCRIPTS = ("results.md", "speed.svg")
 MOST_PARAMETERS = 4
 PATH = re.compile(r"(\.\./|\./)?[\w*.-]+(/[\w*.-]+)*/?")
-
-
-def every_name():
-    """The names of all files and folders, without what is built."""
-    names = set()
-    for _, folders, files in os.walk(TOP):
-        folders[:] = [name for name in folders if name not in ("bin", "dist", "out", "target", ".git", "__pycache__")]
-        names.update(folders + files)
-    return names
 
 
 # PATHS
@@ -76,31 +67,31 @@ def with_stars(path):
     return "/".join("*" + part[len(part.split(".")[0]):] if part.split(".")[0] in STAND_FOR_NAMES else part for part in parts)
 
 
-def is_written(path):
-    """Whether a path is of what scripts write, so that it may be missing."""
-    return "out" in path.split("/") or os.path.normpath(path) in WRITTEN_BY_SCRIPTS
+def ends_of_paths():
+    """The ends of all paths that are not built: of a/b/c they are a/b/c, b/c and c."""
+    ends = set()
+    for folder, folders, files in os.walk(TOP):
+        folders[:] = [name for name in folders if name not in BUILT | {".git", "__pycache__"}]
+        for name in folders + files:
+            parts = os.path.relpath(os.path.join(folder, name), TOP).split("/")
+            ends.update("/".join(parts[at:]) for at in range(len(parts)))
+    return ends
 
 
-def places_of(word, folder):
-    """The paths from the root that a word of a document may mean; none if it is no path of the repository."""
-    if not PATH.fullmatch(word):
-        return []
-    plain = with_stars(word[2:] if word.startswith("./") else word)
-    first = plain.split("/")[0]
-    there = os.path.normpath(os.path.join(folder, plain))
-    if word.startswith("./") or first in FOLDERS:
-        return [plain]
-    if first == "..":
-        return [there]
-    if "/" in plain:
-        if folder and os.path.exists(os.path.join(TOP, folder, first)):
-            return [there]
-        if plain.split(".")[-1] not in OF_CRATES:
-            return []
-        return [os.path.join("crates", "*", *part, plain) for part in ((), ("specs", "**"), ("src",), ("proofs", "**"))]
-    if plain.split(".")[-1] in ENDINGS and "." in plain:
-        return [there, plain, os.path.join("**", plain)]
-    return []
+def is_path(word):
+    """Whether a word of a document is to be a path of the repository, and of what no script writes."""
+    first, last = word.split("/")[0], word.split("/")[-1]
+    is_one = word.startswith(("./", "../")) or word.endswith("/") or first in FOLDERS or "." in last and last.split(".")[-1] in ENDINGS
+    return bool(PATH.fullmatch(word)) and is_one and not BUILT & set(word.split("/")) and not word.endswith(WRITTEN_BY_SCRIPTS)
+
+
+def is_there(word, folder, ends):
+    """Whether a path is there: from the root if it begins at one of its folders, from the document's folder, or from any."""
+    plain = with_stars(word.removeprefix("./").rstrip("/"))
+    near = found(os.path.normpath(os.path.join(folder, plain)))
+    if word.startswith("./") or plain.split("/")[0] in FOLDERS:
+        return bool(found(plain))
+    return bool(near or plain in ends or "*" in plain and fnmatch.filter(ends, plain))
 
 
 def words_of(text):
@@ -112,16 +103,11 @@ def words_of(text):
 
 
 def check_paths():
-    names, count, wrong = every_name(), 0, []
+    ends, count, wrong = ends_of_paths(), 0, []
     for document in (path for pattern in DOCUMENTS for path in found(pattern)):
-        for word in words_of(read(document)):
-            places = places_of(word, os.path.dirname(document))
-            if not places or any(is_written(place) for place in places):
-                continue
-            count += 1
-            bare = "/" not in word and "*" not in with_stars(word) and word in names
-            if not bare and not any(found(place) for place in places):
-                wrong.append(f"{document}: {word} is not there")
+        words = [word for word in words_of(read(document)) if is_path(word)]
+        count += len(words)
+        wrong += [f"{document}: {word} is not there" for word in words if not is_there(word, os.path.dirname(document), ends)]
     return count, wrong
 
 
@@ -285,14 +271,11 @@ def check_written():
         return 1, [str(problem)]
 
 
-def check_proofs():
-    pages, lemmas = found("crates/*/proofs/README.md"), found("crates/*/proofs/[A-Z]*/*.antt")
-    wrong = [f"PROOFS.md: it has no link to {path}" for path in pages if f"](../{path})" not in read("docs/PROOFS.md")]
-    for path in lemmas:
-        folder, name = os.path.split(path[: -len(".antt")])
-        if not re.search(rf"^(pub )?mod {name}\b", read(f"{folder}.antt"), re.M):
-            wrong.append(f"{folder}.antt: {name} is not listed")
-    return len(pages) + len(lemmas), wrong
+def check_lemmas():
+    paths = found("crates/*/proofs/[A-Z]*/*.antt")
+    lists = {path: (f"{os.path.dirname(path)}.antt", os.path.basename(path)[: -len(".antt")]) for path in paths}
+    return len(paths), [f"{path}: {of} does not list it" for path, (of, name) in lists.items()
+                        if not re.search(rf"^(pub )?mod {name}\b", read(of), re.M)]
 
 
 # CHANGES AND SCRIPTS
@@ -312,7 +295,7 @@ def check_scripts():
 
 CHECKS = {"paths": check_paths, "rules": check_rules, "edits": check_edits, "functions of many parameters": check_exceptions,
           "kits": check_kits, "versions": check_versions, "machines": check_machines, "crates of a user": check_crates,
-          "lines of the picture": check_picture, "writing of documents": check_written, "pages and files of lemmas": check_proofs,
+          "lines of the picture": check_picture, "writing of documents": check_written, "files of lemmas": check_lemmas,
           "files of changes": check_changes, "scripts": check_scripts}
 
 
