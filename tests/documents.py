@@ -43,7 +43,7 @@ sys.dont_write_bytecode = True
 from changes import LIST, changes, files_of
 from citing import FUNCTION, statements
 from mistakes import pairs_of
-from repository import TOP, edit_name, found, read
+from repository import TOP, edit_name, edits, found, read
 from rules import front_and_sections
 from written import stale
 
@@ -152,19 +152,18 @@ def differing(path, told, there):
 
 
 def check_edits():
-    paths = found("tests/wrong/*.edit") + found("crates/*/must-fail/*.edit")
-    edits = {f"{path.split('/')[1]}/{edit_name(path)}": pairs_of(f"{path.split('/')[1]}/{edit_name(path)}") for path in paths}
-    wrong = differing("tests/edits.txt", {row[0] for row in rows_of("tests/edits.txt")}, set(edits))
+    every = {name: pairs_of(name) for name in edits()}
+    wrong = differing("tests/edits.txt", {row[0] for row in rows_of("tests/edits.txt")}, set(every))
     wrong += [f"twins.txt: {name} does not replace {len(texts)} texts"
-              for name, *texts in rows_of("tests/twins.txt") if len(edits.get(name, [])) != len(texts)]
+              for name, *texts in rows_of("tests/twins.txt") if len(every.get(name, [])) != len(texts)]
     wrong += [f"{name}: {text!r} stands {read(path).count(text)} times in {path}"
-              for name, pairs in edits.items() for path, text, _ in pairs if read(path).count(text) != 1]
+              for name, pairs in every.items() for path, text, _ in pairs if read(path).count(text) != 1]
     functions = set(re.findall(r"\bfn (\w+)", "".join(read(path) for path in found("crates/*/src/**/*.rt"))))
     for folder in found("crates/*/must-fail"):
         path, there = f"{folder}/README.md", {edit_name(edit) for edit in found(f"{folder}/*.edit")}
         wrong += differing(path, set(re.findall(r"^\| `(\w+)`", read(path), re.M)), there)
         wrong += refused_by_none(path, functions)
-    return len(edits), wrong
+    return len(every), wrong
 
 
 # EXCEPTIONS

@@ -23,6 +23,12 @@ def edit_name(path):
     return os.path.basename(path)[: -len(".edit")]
 
 
+def edits():
+    """The must-fail edits as CRATE/NAME, and the wrong programs as wrong/NAME."""
+    paths = found("crates/*/must-fail/*.edit") + found("tests/wrong/*.edit")
+    return [f"{path.split('/')[1]}/{edit_name(path)}" for path in paths]
+
+
 def edit_file(name):
     """The file of the edit CRATE/NAME, or of wrong/NAME, a mistake that no contract excludes."""
     crate, _, edit = name.partition("/")
