@@ -9,10 +9,9 @@ One line of output for each check; what is wrong is printed before it. The check
 - rules: RULES.md begins with a link to each heading, and names each module of the three crates of the library. walks.py follows
   what stands under the headings.
 - edits: every must-fail edit has a line in edits.txt, and every line has its edit. A line of twins.txt is for an edit, and has
-  a text, or `-`, for each that the edit replaces. The README.md of a crate's must-fail edits
-  names each of them, and no others. If its last column, "Refused by", begins with a name, the code has a function of that
-  name; and each definition in that column is in the file that is named before it. What an edit replaces stands once in its
-  file.
+  a text, or `-`, for each that the edit replaces. What an edit replaces stands once in its file. The README.md of a crate's
+  must-fail edits names each of them, and no others. If its last column, "Refused by", begins with a name, the code has a function
+  of that name; and each definition in that column is in the file that is named before it.
 - exceptions: docs/DECISIONS.md counts and names the functions that have more than four parameters.
 - kits: README.md names the kit that `rt version` names, among those that the proofs were made with.
 - versions: the header, the program's definition, the Rust crate, the Python module and the newest entry of CHANGELOG.md have the
@@ -156,8 +155,9 @@ def check_edits():
     wrong = differing("tests/edits.txt", {row[0] for row in rows_of("tests/edits.txt")}, set(every))
     wrong += [f"twins.txt: {name} does not replace {len(texts)} texts"
               for name, *texts in rows_of("tests/twins.txt") if len(every.get(name, [])) != len(texts)]
-    wrong += [f"{name}: {text!r} stands {read(path).count(text)} times in {path}"
-              for name, pairs in every.items() for path, text, _ in pairs if read(path).count(text) != 1]
+    for name, path, text in ((name, path, text) for name, pairs in every.items() for path, text, _ in pairs):
+        count = read(path).count(text) if found(path) else 0
+        wrong += [f"{name}: {text!r} stands {count} times in {path}"] if count != 1 else []
     functions = set(re.findall(r"\bfn (\w+)", "".join(read(path) for path in found("crates/*/src/**/*.rt"))))
     for folder in found("crates/*/must-fail"):
         path, there = f"{folder}/README.md", {edit_name(edit) for edit in found(f"{folder}/*.edit")}
@@ -256,7 +256,8 @@ def check_picture():
     wrong = [f"ARCHITECTURE.md: {name} uses {others}" for name, others in crates.items()
              if drawn.get(name) != [other for other in others if other in crates]]
     for crate, module, names in re.findall(r"^(\w+)[ .]+(\w+) +(.*)$", way, re.M):
-        there = [begun[1] for path in found(f"crates/{crate}/src/**/{module}.rt") for begun in map(FUNCTION.match, read(path).split("\n")) if begun]
+        lines = [line for path in found(f"crates/{crate}/src/**/{module}.rt") for line in read(path).split("\n")]
+        there = [begun[1] for begun in map(FUNCTION.match, lines) if begun]
         wrong += [f"ARCHITECTURE.md: {crate}/{module} has no {name}" for name in re.findall(r"\w+", names) if name not in there]
     return len(drawn) + way.count("\n") + 1, wrong
 
