@@ -222,13 +222,9 @@ def check_versions():
 # MACHINES
 
 def check_machines():
-    count, wrong = 0, []
-    for path in (path for pattern in [*DOCUMENTS, "packaging/README.md", "packaging/debian/source/README.source"]
-                 for path in found(pattern)):
-        for number, line in enumerate(read(path).split("\n"), 1):
-            count += line.count("x86-64")
-            wrong += [f"{path}:{number}: it is x86-64-v2"] if re.search(r"x86-64(?!-v2)", line) else []
-    return count, wrong
+    patterns = [*DOCUMENTS, "packaging/README.md", "packaging/debian/source/README.source"]
+    paths = [path for pattern in patterns for path in found(pattern)]
+    return len(paths), [f"{path}: it says x86-64, and not x86-64-v2" for path in paths if re.search(r"x86-64(?!-v2)", read(path))]
 
 
 # CRATES
@@ -294,7 +290,7 @@ def check_scripts():
 
 
 CHECKS = {"paths": check_paths, "rules": check_rules, "edits": check_edits, "functions of many parameters": check_exceptions,
-          "kits": check_kits, "versions": check_versions, "machines": check_machines, "crates of a user": check_crates,
+          "kits": check_kits, "versions": check_versions, "documents without other machines": check_machines, "crates of a user": check_crates,
           "lines of the picture": check_picture, "writing of documents": check_written, "files of lemmas": check_lemmas,
           "files of changes": check_changes, "scripts": check_scripts}
 

@@ -7,8 +7,8 @@ A rule is a heading of docs/RULES.md. It has four hops, each to what the line un
 - code: for each of these names a clause of a function in one of the code files cites it. If none does, the line has a part
   "Through" with words that a clause cites: they are made of the name, or a lemma of a file there is about both. Each code file
   with clauses has such a clause.
-- proof: the places are there, and in them are the folders of proofs of the functions that *Clauses* names. If the line says
-  "none by hand", the functions of the hop before have no such folder.
+- proof: the places are there, and in them are the folders of proofs of the functions that *Clauses* names; if there is no such
+  folder, a lemma in them is about one of the names. If the line says "none by hand", it names no place.
 - test: the functions are there and are tests, and so are the files of rows.
 
 What is wrong is told, and a last line counts the hops and those that fail.
@@ -21,7 +21,7 @@ import sys
 
 sys.path.insert(0, os.path.join(os.path.dirname(os.path.abspath(__file__)), "lib"))
 sys.dont_write_bytecode = True
-from citing import clauses, statements
+from citing import clauses, lemmas, statements
 from clauses import citing, clause_of, definitions, words_for
 from repository import TEST, found, read
 from rules import files_in, places_in, rules, tests_in
@@ -61,6 +61,10 @@ def proof(parts):
     if ("none by hand" in parts["Proofs"]) == bool(places):
         yield "either a place or 'none by hand' has to stand under Proofs"
     yield from (f"{folder} is not named" for folder in of_clauses if not any(folder.startswith(place) for place in places))
+    inside = [file for place in places for file in ([place] if place.endswith(".antt") else found(f"{place}**/*.antt"))]
+    words = {word for one in definitions(parts["Definition"]) for word in words_for(parts, one)}
+    if places and not of_clauses and not any(words & named for file in filter(found, inside) for named in lemmas(file).values()):
+        yield "nothing there is about the definition"
 
 
 def test(parts):
