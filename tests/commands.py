@@ -164,15 +164,6 @@ def try_uses_of_docs():
     return not wrong
 
 
-def try_table(dev):
-    """Each line of the table of tests/README.md is a script that ./dev lists, and each script has a line."""
-    with open(os.path.join(TOP, "tests", "README.md"), encoding="utf-8") as text:
-        named = re.findall(r"^\| `(\w+)` \|", text.read().partition("\n## ")[0], re.M)
-    wrong = sorted(set(named) ^ set(dev.scripts()))
-    print(f"commands: {len(named)} lines of tests/README.md, {len(wrong)} wrong {wrong or ''}")
-    return not wrong and len(named) > 10
-
-
 def try_usages(dev):
     """A script that is given no program and needs one says how it is called."""
     needing = [name for name in dev.scripts() if "given_program()" in dev.read(f"tests/{name}.py")]
@@ -238,7 +229,7 @@ def try_start(dev):
 
 def main():
     dev = load_dev()
-    good = [try_readmes(dev), try_commands(dev), try_wrong_names(), try_uses_of_docs(), try_table(dev), try_usages(dev)]
+    good = [try_readmes(dev), try_commands(dev), try_wrong_names(), try_uses_of_docs(), try_usages(dev)]
     return 0 if all([*good, try_helps(dev), try_measures(), try_start(dev)]) else 1
 
 

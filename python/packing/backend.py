@@ -59,12 +59,12 @@ Files = List[Tuple[str, bytes]]
 
 
 def module_files() -> Iterator[Tuple[str, bytes]]:
-    """The files of the package, without libraries, what Python has compiled, and what is for readers of the sources."""
+    """The files of the package, without libraries and what Python has compiled."""
     for folder, folders, names in os.walk(PACKAGE):
         folders[:] = sorted(name for name in folders if name != "__pycache__")
         for name in sorted(names):
             path = os.path.relpath(os.path.join(folder, name), FOLDER)
-            if name != "README.md" and not LIBRARY.fullmatch(name):
+            if not LIBRARY.fullmatch(name):
                 yield path, read(path)
 
 

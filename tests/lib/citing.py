@@ -57,42 +57,18 @@ def heads(text):
 
 
 @functools.cache
-def contracts(path):
-    """Each function of a file of code with the definitions that its contract cites."""
-    text, every = read(path), {}
-    names, files = used(text)
-    for name, head in heads(text):
-        clauses = CLAUSE.search(head)
-        every.setdefault(name, set()).update(cited(head[clauses.start() :], names, files) if clauses else ())
-    return every
-
-
-@functools.cache
 def clauses(path):
-    """Each clause of a file of code that says what a function returns or leaves: the function, how far it is known (0 if it is
-    public, 1 in the crate, 2 in the file), the clause's name if it has one, and the definitions that it cites."""
+    """Each clause of a file of code: its keyword, the function, how far this is known (0 if it is public, 1 in the crate, 2 in the
+    file), the clause's name if it has one, and the definitions that it cites."""
     text, every = read(path), []
     names, files = used(text)
     for name, head in heads(text):
+        known = [head.lstrip().startswith(word) for word in ("pub ", "pub(crate) ", "")].index(True)
         starts = [clause.start() for clause in CLAUSE.finditer(head)]
         for begin, end in zip(starts, [*starts[1:], len(head)]):
-            ensures = re.match(r" +ensures\*?(?: (\w+))? \{", head[begin:end])
-            if ensures:
-                known = [head.lstrip().startswith(word) for word in ("pub ", "pub(crate) ", "")].index(True)
-                every.append((name, known, ensures[1], set(cited(head[begin:end], names, files))))
+            keyword, clause = re.match(r" +(\w+)\*?(?: (\w+)(?= \{))?", head[begin:end]).groups()
+            every.append((keyword, name, known, clause, set(cited(head[begin:end], names, files))))
     return every
-
-
-def changed(path):
-    """The functions in which an edit of must-fail/ changes something, each with its file."""
-    file = ""
-    for line in read(path).split("\n"):
-        key, _, value = line.partition(": ")
-        if key == "file":
-            file = f"crates/{path.split('/')[1]}/{value}"
-        before = read(file).partition(value)[0] if key == "old" else ""
-        names = [begun[1] for begun in map(FUNCTION.match, before.split("\n")) if begun]
-        yield from ((file, name) for name in names[-1:])
 
 
 # DEFINITIONS

@@ -25,17 +25,13 @@ def sources(folder):
     return sorted(name for name in os.listdir(os.path.join(TOP, folder)) if os.path.splitext(name)[1] in FRONTS)
 
 
-def long_folders():
-    """The folders of code, definitions and shared scripts that have more than eight files."""
-    paths = [path for pattern in ("crates/*/src/", "crates/*/specs/", "crates/*/specs/*/", "tests/lib/") for path in found(pattern)]
-    return sorted(path for path in paths if len(sources(path)) > MOST_FILES)
-
-
 def sentence(folder, name):
     """The first sentence of the comment at the front of a file."""
     front = re.match(r"(?:#!/[^\n]*\n)?(" + FRONTS[os.path.splitext(name)[1]] + ")", read(f"{folder}/{name}"), re.S)
     said = re.match(r".*?[.:](?= [A-Z]|$)", " ".join(MARKS.sub("", front[1]).split())) if front else None
-    return said[0] if said else NAMELESS.get(name, "")
+    if not said and name not in NAMELESS:
+        raise ValueError(f"{folder}/{name}: it does not begin with a sentence")
+    return said[0] if said else NAMELESS[name]
 
 
 def listing(folder):
@@ -49,4 +45,5 @@ def listing(folder):
 
 def listings():
     """Each README.md by its path, as it would be written now."""
-    return {f"{folder}/README.md": listing(folder) for folder in long_folders()}
+    paths = [path for pattern in ("crates/*/src/", "crates/*/specs/", "crates/*/specs/*/", "tests/lib/") for path in found(pattern)]
+    return {f"{path}/README.md": listing(path) for path in paths if len(sources(path)) > MOST_FILES}

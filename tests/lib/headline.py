@@ -5,7 +5,6 @@ Chosen by hand are the order in which to read the first, and the file from which
 sentence.
 """
 
-import functools
 import os
 import re
 
@@ -13,7 +12,7 @@ from folders import sentence
 from repository import between, found, read
 
 BEGIN, END = "<!-- listed by ./dev folders -->", "<!-- end of what is listed -->"
-HEADLINE, BYTES, READING = ("yaml_scan", "Headline"), ("yaml_scan", "Decoded"), ("yaml_scan", "SourceOf")
+HEADLINE, BYTES = ("yaml_scan", "Headline"), ("yaml_scan", "Decoded")
 # Names of yaml_scan, and others by crate and name.
 ORDER = """
 Headline Seen Parser Session Settled Groups Laid Levels Keys Depth yaml_lexeme/Greatest Allowed Course Near Step Kind Token
@@ -26,7 +25,6 @@ def path_of(place):
     return f"crates/{place[0]}/specs/{place[1].replace('.', '/')}.antt"
 
 
-@functools.cache
 def closure(start):
     """A file of definitions and all that it reaches."""
     reached, left = [], [start]
@@ -39,13 +37,12 @@ def closure(start):
 
 
 def ordered():
-    """The places of ORDER."""
-    return [tuple(name.split("/")) if "/" in name else (HEADLINE[0], name) for name in ORDER.split()]
-
-
-def unlisted():
-    """What is in ORDER or is reached by the headline, and not both."""
-    return sorted(path_of(place) for place in set(ordered()) ^ set(closure(HEADLINE)))
+    """The places of ORDER, which are those that the headline reaches."""
+    places = [tuple(name.split("/")) if "/" in name else (HEADLINE[0], name) for name in ORDER.split()]
+    wrong = sorted(path_of(place) for place in set(places) ^ set(closure(HEADLINE)))
+    if wrong:
+        raise ValueError(f"tests/lib/headline.py: in ORDER and not reached, or reached and not there: {', '.join(wrong)}")
+    return places
 
 
 def lines(places):

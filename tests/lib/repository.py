@@ -2,8 +2,10 @@
 
 import glob
 import os
+import re
 
 TOP = os.path.dirname(os.path.dirname(os.path.dirname(os.path.abspath(__file__))))
+TEST = re.compile(r"^ *#\[test\]\n(?: *(?:#|//).*\n)* *fn (\w+)", re.M)  # a function that is a test
 
 
 def read(path):
@@ -19,6 +21,12 @@ def found(pattern):
 def edit_name(path):
     """The name of an edit: that of its file."""
     return os.path.basename(path)[: -len(".edit")]
+
+
+def edits():
+    """The must-fail edits as CRATE/NAME, and the wrong programs as wrong/NAME."""
+    paths = found("crates/*/must-fail/*.edit") + found("tests/wrong/*.edit")
+    return [f"{path.split('/')[1]}/{edit_name(path)}" for path in paths]
 
 
 def edit_file(name):
