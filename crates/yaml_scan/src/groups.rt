@@ -1,17 +1,11 @@
 //! Groups: what a step hands out, which is a token and what comes before it.
-ghost use Rattle.std.specs.Prelude.{◌≡◌, ◌+◌, ◌-◌, ◌<◌, ◌∷◌, [], ◌&&◌, nat_eq, nat_lt, length, take, drop, OnOk, List};
-ghost use Rattle.std.specs.Prelude.{◌^◌, true, false};
-ghost use Rattle.std.specs.VecDeque.{deque_capacity};
+ghost use Rattle.std.specs.Prelude.{◌≡◌, ◌+◌, ◌-◌, ◌<◌, ◌∷◌, [], ◌&&◌, take, drop, ◌^◌};
 ghost use Rattle.yaml_text.specs.declared.types.yaml_encoding_t.{yaml_encoding_t};
 ghost use Rattle.yaml_text.specs.Token.{data_of, token_of};
-ghost use Rattle.yaml_text.specs.declared.types.yaml_mark_t.{yaml_mark_t};
 ghost use Rattle.yaml_scan.specs.Token.{at_mark};
 ghost use Rattle.yaml_scan.specs.declared.groups.lead_t.TheVariants.{NOTHING};
-ghost use Rattle.yaml_scan.specs.inside.Handed.{IsPushed, lone};
-ghost use Rattle.yaml_scan.specs.inside.Queue.{IsBare, IsQueue, IsLead, TakesLead, TakesNext, keyed_at, leads, pending};
-ghost use Rattle.yaml_scan.specs.inside.Queue.{KeepsRest, begins_with_end, mark_next, lead_tokens};
+ghost use Rattle.yaml_scan.specs.inside.Queue.{leads, lead_tokens};
 ghost use Rattle.yaml_scan.specs.Groups.{Token, handed_out};
-ghost use Rattle.yaml_scan.specs.Groups.Token.{StreamStart};
 
 use yaml_text::{unnamed_yaml_token_t_data, yaml_mark_t, yaml_token_t};
 

@@ -1,12 +1,8 @@
 //! Simple keys: the candidates for one, which a `:` may yet make a key (YAML 1.1, 10.2 Mapping Styles, simple keys).
-ghost use Rattle.std.specs.Prelude.{◌≡◌, ◌+◌, ◌-◌, ◌<◌, ◌&&◌, ◌++◌, ◌∷◌, [], Option, None, map, vec_len, false};
-ghost use Rattle.std.specs.Prelude.{if◌then◌else◌, length, nat_lt, true, ◌||◌};
-ghost use Rattle.yaml_scan.specs.Kind.{is_flow_start};
+ghost use Rattle.std.specs.Prelude.{◌≡◌, ◌+◌, ◌-◌, ◌<◌, ◌&&◌, ◌++◌, ◌∷◌, [], None, if◌then◌else◌, ◌||◌};
 ghost use Rattle.std.specs.Option.{is_some};
-ghost use Rattle.std.specs.Vec.{vec_capacity};
-ghost use Rattle.yaml_scan.specs.inside.Slots.{is_live, still_held, lost_held, needed, slot_after, root_of, held_step};
-ghost use Rattle.yaml_scan.specs.inside.Slots.{completed_held, nested_outer, nested_top, empty_slots, lowest};
-ghost use Rattle.yaml_scan.specs.inside.Slots.{AreEmptyBelow, AreNested};
+ghost use Rattle.yaml_scan.specs.inside.Slots.{is_live, still_held, lost_held, needed, slot_after, held_step};
+ghost use Rattle.yaml_scan.specs.inside.Slots.{completed_held};
 
 use crate::kind::{is_candidate_kind, is_colon};
 use yaml_lexeme::yaml_lexeme_kind_t;

@@ -1,6 +1,5 @@
 //! What a step lays: of a lexeme that was read it makes a group, which is handed on, unless the step has to stop.
-ghost use Rattle.std.specs.Prelude.{◌≡◌, ◌<◌, ◌++◌, ◌∷◌, List, [], false, length, ℕ, ◌≤◌, ◌||◌, not, IfOk, MatchResult};
-ghost use Rattle.std.specs.Prelude.{None, OnOk};
+ghost use Rattle.std.specs.Prelude.{◌≡◌, ◌<◌, ◌++◌, ◌∷◌, List, [], false, length, ℕ, ◌≤◌, ◌||◌, not, MatchResult, OnOk};
 ghost use Rattle.std.specs.VecDeque.{deque_capacity};
 ghost use Rattle.yaml_text.specs.declared.token.yaml_token_t.{yaml_token_t as code_token_t};
 ghost use Rattle.yaml_text.specs.declared.types.yaml_mark_t.{yaml_mark_t};
@@ -14,10 +13,9 @@ ghost use Rattle.yaml_scan.specs.Laid.{Laid};
 ghost use Rattle.yaml_scan.specs.inside.Handed.{IsLaidAs, IsReadTo, IsTokenOf, group_with, read_to, FindsRoom};
 ghost use Rattle.yaml_scan.specs.inside.Handed.{IsLaidAlone, LaysTo, StepsTo, WasLaid, group_tokens};
 ghost use Rattle.yaml_scan.specs.inside.Scanner.{scanner_of, Scanner};
-ghost use Rattle.yaml_scan.specs.inside.Scanning.{CanPut, HasRoom, groups_in, met_in, CanLayAll, CanRead, IsReadIn};
-ghost use Rattle.yaml_scan.specs.inside.Scanning.{IsStep, Refuses};
+ghost use Rattle.yaml_scan.specs.inside.Scanning.{CanPut, HasRoom, groups_in, met_in, CanLayAll, CanRead, IsStep};
+ghost use Rattle.yaml_scan.specs.inside.Scanning.{Refuses};
 ghost use Rattle.yaml_scan.specs.Sink.{said_len};
-ghost use Rattle.yaml_scan.specs.declared.groups.group_t.{group_t};
 ghost use Rattle.yaml_scan.specs.inside.TextReads.{IsRead};
 
 use crate::allowed::is_allowed_after;

@@ -1,17 +1,10 @@
 //! The layout: the open levels and the queue. A key may open a level and mark a group of the queue.
-ghost use Rattle.std.specs.Prelude.{◌≡◌, ◌+◌, ◌-◌, ◌<◌, ◌≤◌, ◌&&◌, ◌++◌, ◌∷◌, [], true, false, not, reverse, map};
-ghost use Rattle.std.specs.Prelude.{filter, length, vec_len, nat_lt, None, Some, if◌then◌else◌};
+ghost use Rattle.std.specs.Prelude.{◌≡◌, ◌+◌, ◌-◌, ◌<◌, ◌≤◌, ◌&&◌, ◌++◌, ◌∷◌, [], false, reverse, vec_len, Some};
+ghost use Rattle.std.specs.Prelude.{if◌then◌else◌};
 ghost use Rattle.std.specs.Vec.{vec_capacity};
-ghost use Rattle.std.specs.VecDeque.{deque_capacity};
-ghost use Rattle.yaml_scan.specs.declared.groups.block_t.TheVariants.{NONE};
-ghost use Rattle.yaml_scan.specs.Kind.{is_stream_end};
-ghost use Rattle.yaml_scan.specs.Levels.{stays, greatest_level, opens_level};
 ghost use Rattle.yaml_scan.specs.Falling.{IsFalling};
-ghost use Rattle.yaml_scan.specs.Groups.{end_at};
-ghost use Rattle.yaml_scan.specs.Groups.Token.{BlockEnd};
 ghost use Rattle.yaml_scan.specs.inside.Opened.{is_new, opened};
-ghost use Rattle.yaml_scan.specs.inside.Queue.{ends_at, closing, completed_in, opened_by, start_of, Fitting, KeepsRest};
-ghost use Rattle.yaml_scan.specs.inside.Slots.{is_level};
+ghost use Rattle.yaml_scan.specs.inside.Queue.{completed_in, opened_by, Fitting, KeepsRest};
 
 use crate::groups::block_t;
 use crate::keys::candidate_t;

@@ -1,8 +1,7 @@
 //! Indentation levels: the columns of the block collections that are open (YAML 1.1, 6.1 Indentation Spaces).
 ghost use Rattle.std.specs.Prelude.{◌≡◌, ◌+◌, ◌-◌, ◌<◌, ◌≤◌, ◌&&◌, ◌++◌, ◌∷◌, [], true, false, not, reverse, map};
-ghost use Rattle.std.specs.Prelude.{filter, length, vec_len, nat_lt, None, Some, if◌then◌else◌};
+ghost use Rattle.std.specs.Prelude.{filter, vec_len, nat_lt, None, if◌then◌else◌};
 ghost use Rattle.std.specs.Vec.{vec_capacity};
-ghost use Rattle.std.specs.VecDeque.{deque_capacity};
 ghost use Rattle.yaml_scan.specs.declared.groups.block_t.TheVariants.{NONE};
 ghost use Rattle.yaml_scan.specs.Kind.{is_stream_end};
 ghost use Rattle.yaml_scan.specs.Levels.{stays, greatest_level, opens_level};
@@ -10,7 +9,7 @@ ghost use Rattle.yaml_scan.specs.Falling.{IsFalling};
 ghost use Rattle.yaml_scan.specs.Groups.{end_at};
 ghost use Rattle.yaml_scan.specs.Groups.Token.{BlockEnd};
 ghost use Rattle.yaml_scan.specs.inside.Opened.{is_new, opened};
-ghost use Rattle.yaml_scan.specs.inside.Queue.{ends_at, closing, completed_in, opened_by, start_of, Fitting, KeepsRest};
+ghost use Rattle.yaml_scan.specs.inside.Queue.{ends_at, closing, opened_by, start_of};
 ghost use Rattle.yaml_scan.specs.inside.Slots.{is_level};
 
 use crate::groups::block_t;

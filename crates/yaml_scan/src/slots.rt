@@ -1,13 +1,11 @@
 //! Slots: the candidate of each flow depth. The depth is how many flow collections are open (YAML 1.1, chapter 10,
 //! Collection Styles).
-ghost use Rattle.std.specs.Prelude.{◌≡◌, ◌+◌, ◌-◌, ◌<◌, ◌&&◌, ◌++◌, ◌∷◌, [], Option, None, map, vec_len, false};
-ghost use Rattle.std.specs.Prelude.{if◌then◌else◌, length, nat_lt, true, ◌||◌};
+ghost use Rattle.std.specs.Prelude.{◌≡◌, ◌+◌, ◌-◌, ◌<◌, ◌&&◌, ◌++◌, ◌∷◌, [], None, map, vec_len, false, if◌then◌else◌};
+ghost use Rattle.std.specs.Prelude.{length, nat_lt, true, ◌||◌};
 ghost use Rattle.yaml_scan.specs.Kind.{is_flow_start};
-ghost use Rattle.std.specs.Option.{is_some};
 ghost use Rattle.std.specs.Vec.{vec_capacity};
-ghost use Rattle.yaml_scan.specs.inside.Slots.{is_live, still_held, lost_held, needed, slot_after, root_of, held_step};
-ghost use Rattle.yaml_scan.specs.inside.Slots.{completed_held, nested_outer, nested_top, empty_slots, lowest};
-ghost use Rattle.yaml_scan.specs.inside.Slots.{AreEmptyBelow, AreNested};
+ghost use Rattle.yaml_scan.specs.inside.Slots.{still_held, slot_after, root_of, held_step, nested_outer, nested_top};
+ghost use Rattle.yaml_scan.specs.inside.Slots.{empty_slots, lowest, AreEmptyBelow, AreNested};
 
 use crate::depth::{is_flow_end, is_flow_start, nests};
 use crate::keys::{candidate_t, change_slot, give_up, held_step, still_held};

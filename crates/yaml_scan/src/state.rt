@@ -1,7 +1,7 @@
 //! The state of a running scanner, and what a step asks of it before and after it reads its lexeme. The text that it
 //! scans is given beside it, also where only a contract speaks of it.
-ghost use Rattle.std.specs.Prelude.{◌≡◌, ◌+◌, ◌<◌, ◌^◌, ◌&&◌, not, if◌then◌else◌, nat_lt, None, reverse, vec_len};
-ghost use Rattle.std.specs.Option.{is_some, option_copied};
+ghost use Rattle.std.specs.Prelude.{◌≡◌, ◌+◌, ◌<◌, ◌^◌, ◌&&◌, if◌then◌else◌, nat_lt, reverse, vec_len};
+ghost use Rattle.std.specs.Option.{option_copied};
 ghost use Rattle.yaml_text.specs.Text.{Text};
 ghost use Rattle.yaml_scan.specs.Falling.{IsFalling};
 ghost use Rattle.yaml_scan.specs.inside.Ready.{IsNew};

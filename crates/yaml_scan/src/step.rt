@@ -1,30 +1,22 @@
 //! A step: the gap, the kind of the next lexeme, the lexeme, and what the layout makes of it. The kind has to be
 //! allowed there, and what is kept of the lexeme needs room.
-ghost use Rattle.std.specs.Prelude.{Bool, List, ◌≡◌, ◌⊎◌, true, MatchResult, ◌<◌, false, nat_lt, vec_len, OnOk, ◌++◌};
-ghost use Rattle.std.specs.Prelude.{◌∷◌, [], length, ℕ, ◌≤◌, ◌||◌, not, IfOk, None};
+ghost use Rattle.std.specs.Prelude.{List, ◌≡◌, ◌⊎◌, true, MatchResult, ◌<◌, nat_lt, vec_len, OnOk, ◌++◌, ◌∷◌, [], ◌≤◌};
+ghost use Rattle.std.specs.Prelude.{◌||◌, IfOk};
 ghost use Rattle.yaml_text.specs.Fault.{memory_fault};
 ghost use Rattle.yaml_text.specs.Text.{Text};
-ghost use Rattle.yaml_lexeme.specs.declared.kind.yaml_lexeme_kind_t.{yaml_lexeme_kind_t};
 ghost use Rattle.yaml_lexeme.specs.KindSets.{is_character, marker_kind};
 ghost use Rattle.yaml_lexeme.specs.declared.kind.yaml_lexeme_kind_t.TheVariants.{STREAM_END};
 ghost use Rattle.yaml_scan.specs.Laid.{Laid};
-ghost use Rattle.yaml_scan.specs.inside.Scanner.{scanner_of, Scanner};
+ghost use Rattle.yaml_scan.specs.inside.Scanner.{scanner_of};
 ghost use Rattle.yaml_scan.specs.inside.Scanning.{Beside, CanRead, Comes, HasRoom, IsMet, Refuses, Stays, allowed_in};
-ghost use Rattle.yaml_scan.specs.inside.Scanning.{CanStep, IsStep, CanPut, groups_in, met_in, CanLayAll, IsReadIn};
+ghost use Rattle.yaml_scan.specs.inside.Scanning.{CanStep, IsStep, CanLayAll, IsReadIn};
 ghost use Rattle.yaml_scan.specs.inside.Stop.{fault_at};
-ghost use Rattle.yaml_scan.specs.inside.Handed.{StepsTo, IsLaidAs, IsReadTo, IsTokenOf, group_with, read_to, FindsRoom};
-ghost use Rattle.yaml_scan.specs.inside.Handed.{IsLaidAlone, LaysTo, WasLaid, group_tokens};
-ghost use Rattle.std.specs.VecDeque.{deque_capacity};
+ghost use Rattle.yaml_scan.specs.inside.Handed.{StepsTo, IsReadTo, IsTokenOf, read_to, FindsRoom, WasLaid};
 ghost use Rattle.yaml_text.specs.declared.token.yaml_token_t.{yaml_token_t as code_token_t};
 ghost use Rattle.yaml_text.specs.declared.types.yaml_mark_t.{yaml_mark_t};
-ghost use Rattle.yaml_text.specs.Token.{TokenData, data_of, token_of};
+ghost use Rattle.yaml_text.specs.Token.{TokenData, data_of};
 ghost use Rattle.yaml_lexeme.specs.Lexeme.{Lexeme};
-ghost use Rattle.yaml_lexeme.specs.LexemeOf.{lexeme_of};
-ghost use Rattle.yaml_lexeme.specs.Counted.{IsMarkOf};
-ghost use Rattle.yaml_scan.specs.Kind.{is_stream_end};
 ghost use Rattle.yaml_scan.specs.Sink.{said_len};
-ghost use Rattle.yaml_scan.specs.declared.groups.group_t.{group_t};
-ghost use Rattle.yaml_scan.specs.inside.TextReads.{IsRead};
 
 use crate::allowed::is_key_allowed;
 use crate::depth::is_flow_start;
