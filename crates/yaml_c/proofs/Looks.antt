@@ -12,7 +12,7 @@ use Rattle.yaml_scan.specs.ParserCalls.{token_shown}
 use Rattle.yaml_scan.specs.Scanned.{GoesOnBy, Scanned}
 use Rattle.yaml_scan.specs.Session.Answer.{PEEKED, FAULT as FAULT_ANSWER}
 use Rattle.yaml_scan.specs.Session.Call.{PEEK, SCAN}
-use Rattle.yaml_scan.specs.declared.kept.yaml_kept_parser_t.{yaml_kept_parser_t}
+use Rattle.yaml_scan.specs.declared.scanner.scanner_t.{scanner_t as yaml_kept_parser_t}
 use Rattle.yaml_scan.specs.inside.Kept.{IsKept}
 use Rattle.yaml_scan.proofs.RunningCalls.CallAnswers.{scan_faulty}
 use Rattle.yaml_c.specs.Ahead.{Ahead, IsAhead}

@@ -30,8 +30,8 @@ ghost use Rattle.yaml_scan.specs.ParserCalls.{IsRefusedAtStart};
 
 use crate::groups::{group_t, lead_t, lead_token};
 use crate::keys::KEY_LIMIT;
-use crate::kept::begin;
 use crate::parser::{yaml_parser_t, yaml_scan_next};
+use crate::scanner::begin;
 use crate::session::is_last;
 use crate::settled::is_settled;
 use crate::sink::{count_of, give, give_group, has_room_for, said_len, yaml_token_sink_t};

@@ -9,7 +9,6 @@ mod depth;
 mod follower;
 mod give;
 mod groups;
-mod kept;
 mod keys;
 mod kind;
 mod laid;
@@ -21,6 +20,7 @@ mod near;
 mod parser;
 mod queue;
 mod read;
+mod scanner;
 mod session;
 mod settled;
 mod sink;
@@ -34,12 +34,12 @@ mod stop;
 
 pub use calls::{yaml_answer_t, yaml_call_t, yaml_run};
 pub use give::{yaml_scan_all, yaml_scan_all_limit, yaml_scan_next_to, yaml_scan_to};
-pub use kept::{yaml_kept_parser_t, yaml_kept_peek, yaml_kept_scan_to};
 pub use keys::{KEY_LIMIT, MOST_KEY_LIMIT};
 pub use parser::{
     yaml_parser_fault, yaml_parser_has_token, yaml_parser_mark, yaml_parser_peek,
     yaml_parser_queued, yaml_parser_scan, yaml_parser_skip, yaml_parser_t, yaml_scan_next,
 };
+pub use scanner::{scanner_t as yaml_kept_parser_t, yaml_kept_peek, yaml_kept_scan_to};
 pub use sink::yaml_token_sink_t;
 pub use yaml_lexeme::{
     yaml_context_t, yaml_gap, yaml_lexeme_at, yaml_lexeme_kind, yaml_lexeme_kind_t, yaml_lexeme_t,

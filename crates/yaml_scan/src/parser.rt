@@ -22,8 +22,8 @@ ghost use Rattle.yaml_scan.specs.All.{ReadsAll};
 ghost use Rattle.yaml_scan.specs.Scanned.{Scanned};
 ghost use Rattle.yaml_scan.specs.Session.Answer.{TOKEN, FAULT};
 
-use crate::kept::yaml_kept_parser_t;
 use crate::keys::KEY_LIMIT;
+use crate::scanner::scanner_t;
 use crate::session::is_last;
 use std::alloc::Global;
 use std::marker::Model;
@@ -33,7 +33,7 @@ use yaml_text::{yaml_encoding_t, yaml_fault_t, yaml_mark_t, yaml_text_t, yaml_to
 #[derive(Drop)]
 pub struct yaml_parser_t<'a> {
     pub(crate) input: &'a [u8],
-    pub(crate) scanner: yaml_kept_parser_t,
+    pub(crate) scanner: scanner_t,
     /// The text, once it is known to be a part of the input.
     pub(crate) part: Option<yaml_text_t<'a>>,
     pub(crate) empty: yaml_token_t,
@@ -71,7 +71,7 @@ impl<'a> yaml_parser_t<'a> {
     {
         yaml_parser_t {
             input,
-            scanner: yaml_kept_parser_t::with_key_limit(alloc, setting, limit),
+            scanner: scanner_t::with_key_limit(alloc, setting, limit),
             part: None,
             empty: yaml_token_t::empty(),
         }

@@ -4,7 +4,7 @@ use Rattle.yaml_text.specs.Fault.{Fault}
 use Rattle.yaml_text.specs.Token.{Token}
 use Rattle.yaml_scan.specs.All.{ReadsAll}
 use Rattle.yaml_scan.specs.Parser.{Parser}
-use Rattle.yaml_scan.specs.declared.kept.yaml_kept_parser_t.{yaml_kept_parser_t}
+use Rattle.yaml_scan.specs.declared.scanner.scanner_t.{scanner_t as yaml_kept_parser_t}
 use Rattle.yaml_scan.specs.inside.Kept.{IsKept}
 use Rattle.yaml_c.specs.Ahead.{Ahead, IsAhead}
 use Rattle.yaml_c.specs.Ahead.Ahead.{READ_FAULT, ALL_GIVEN}

@@ -13,7 +13,7 @@ use Rattle.yaml_text.specs.declared.fault.yaml_fault_t.{yaml_fault_t}
 use Rattle.yaml_text.specs.declared.types.yaml_encoding_t.{yaml_encoding_t}
 use Rattle.yaml_scan.specs.declared.stop.stop_t.{stop_t}
 use Rattle.yaml_scan.specs.declared.groups.group_t.{group_t}
-use Rattle.yaml_scan.specs.declared.kept.yaml_kept_parser_t.{yaml_kept_parser_t}
+use Rattle.yaml_scan.specs.declared.scanner.scanner_t.{scanner_t}
 use Rattle.yaml_scan.specs.declared.session.session_t.{session_t}
 use Rattle.yaml_scan.specs.declared.state.state_t.{state_t}
 use Rattle.yaml_scan.specs.Decoded.{decoded_input}
@@ -49,13 +49,13 @@ use Rattle.yaml_scan.proofs.RunningQueue.QueueGroups.{IsFirst, lead_first, token
 
 -- OVER THIS INPUT
 -- what was kept of a parser of an input is a scanner of that
-pub over_this : (p : Parser) (input : List ℕ) (k : yaml_kept_parser_t) → p.input ≡ input → IsKept p k → IsScannerOf input k × (parser_of (scan_of input k) ≡ p)
+pub over_this : (p : Parser) (input : List ℕ) (k : scanner_t) → p.input ≡ input → IsKept p k → IsScannerOf input k × (parser_of (scan_of input k) ≡ p)
 over_this p input k e w = subst (λ (z : List ℕ). IsScannerOf z k × (parser_of (scan_of z k) ≡ p)) e (w.is, w.seen_as)
 
-pub is_kept : (input : List ℕ) (k : yaml_kept_parser_t) → IsScannerOf input k → IsKept (parser_of (scan_of input k)) k
+pub is_kept : (input : List ℕ) (k : scanner_t) → IsScannerOf input k → IsKept (parser_of (scan_of input k)) k
 is_kept input k w = record { is = w; seen_as = refl }
 
-pub over_is : (p : Parser) (k : yaml_kept_parser_t) → IsKept p k → k.session.over ≡ p.session.over
+pub over_is : (p : Parser) (k : scanner_t) → IsKept p k → k.session.over ≡ p.session.over
 over_is p k w = ap (λ (z : Parser). z.session.over) w.seen_as
 
 is_true : (r : Bool) → not r ≡ false → r ≡ true
@@ -218,10 +218,10 @@ peek_to_fault i j same o e =
     }
 
 -- WHAT IS LEFT OF A SCANNER, WHOSE SETTING STAYS
-abbrev pub with_its : yaml_kept_parser_t → session_t → yaml_kept_parser_t
+abbrev pub with_its : scanner_t → session_t → scanner_t
 with_its l s = record { setting = l.setting; text = l.text; session = s }
 
-module _ (input : List ℕ) (k l : yaml_kept_parser_t) (same : l.setting ≡ k.setting) (s : session_t) where
+module _ (input : List ℕ) (k l : scanner_t) (same : l.setting ≡ k.setting) (s : session_t) where
   abbrev pub then_as : Scan
   then_as = with_session (scan_of input k) s
 
@@ -229,10 +229,10 @@ module _ (input : List ℕ) (k l : yaml_kept_parser_t) (same : l.setting ≡ k.s
   at_setting P w = subst (λ (z : yaml_encoding_t). P (record { setting = z; input = input; session = s })) (sym same) w
 
 -- its text is kept
-pub is_left_so : (input : List ℕ) (k l : yaml_kept_parser_t) → KeepsText input k l → Sound (scan_of input l) → IsScannerOf input l
+pub is_left_so : (input : List ℕ) (k l : scanner_t) → KeepsText input k l → Sound (scan_of input l) → IsScannerOf input l
 is_left_so input k l z v = record { sound = v; text = λ o m. subst (λ (e : yaml_encoding_t). IsKeptOf (front e input) input l.text) (sym z.setting) z.text }
 
-module _ (input : List ℕ) (k l : yaml_kept_parser_t) (z : KeepsText input k l) where
+module _ (input : List ℕ) (k l : scanner_t) (z : KeepsText input k l) where
   pub is_left : (s : session_t) → Sound (with_session (scan_of input k) s) → IsScannerOf input (with_its l s)
   is_left s v = record {
     sound = at_setting input k l z.setting s Sound v;
@@ -240,7 +240,7 @@ module _ (input : List ℕ) (k l : yaml_kept_parser_t) (z : KeepsText input k l)
   }
 
 -- it has stopped, after the session `last`, and the fault w ends the session
-module _ (input : List ℕ) (k l : yaml_kept_parser_t) (same : l.setting ≡ k.setting) (last : session_t) (w : yaml_fault_t) (f : Fault) (d : fault_of w ≡ f) (n : StopsNow (with_session (scan_of input k) last) l.session f) (s : session_t) (left : s ≡ ended_by l.session w) where
+module _ (input : List ℕ) (k l : scanner_t) (same : l.setting ≡ k.setting) (last : session_t) (w : yaml_fault_t) (f : Fault) (d : fault_of w ≡ f) (n : StopsNow (with_session (scan_of input k) last) l.session f) (s : session_t) (left : s ≡ ended_by l.session w) where
   pub stopped_left : IsScannerOf input (with_its l s)
   stopped_left = record {
     sound = at_setting input k l same s Sound (subst (λ (z : session_t). Sound (with_session (scan_of input k) z)) (sym left) (ended_sound (with_session (scan_of input k) last) l.session w f d n));
@@ -270,7 +270,7 @@ module _ (input : List ℕ) (k l : yaml_kept_parser_t) (same : l.setting ≡ k.s
 
 -- THE NEXT TOKEN IS AT THE HEAD OF THE QUEUE
 -- it was shown before
-pub settled_shown : (input : List ℕ) (k : yaml_kept_parser_t) → IsScannerOf input k → k.session.peeked ≡ true → KeepsText input k k × HasSettled (scan_of input k) (front k.setting input) k.session
+pub settled_shown : (input : List ℕ) (k : scanner_t) → IsScannerOf input k → k.session.peeked ≡ true → KeepsText input k k × HasSettled (scan_of input k) (front k.setting input) k.session
 settled_shown input k r e =
     let v = r.sound in
     let p = v.peeked e in
@@ -280,7 +280,7 @@ settled_shown input k r e =
     )
 
 -- it is there after some steps, over the text that was kept
-pub settles_over : (input : List ℕ) (k l : yaml_kept_parser_t) → KeepsText input k l → HasBegun (scan_of input k) (front k.setting input) l.session → k.session.peeked ≡ false
+pub settles_over : (input : List ℕ) (k l : scanner_t) → KeepsText input k l → HasBegun (scan_of input k) (front k.setting input) l.session → k.session.peeked ≡ false
     → (state : state_t) (T : Text) → T ≡ front k.setting input → (result : Result (Unit {0}) stop_t)
     → MatchResult result (λ _. Scanning.Settles (scanner_of T l.session.state) (scanner_of T state)) (λ stop. ((fault_at stop state.fault ≡ memory_fault) ⊎ Fails (scanner_of T l.session.state) (scanner_of T state) (fault_at stop state.fault)) × Stops (scanner_of T l.session.state) (scanner_of T state))
     → KeptEnds.Settles input k (with_its l (on_to l.session state)) result
@@ -290,7 +290,7 @@ settles_over input k l z b n state T e (Err stop) w =
     (z.setting, settles_next (scan_of input k) l.session state b n (Err stop) (subst (λ (y : Text). ((fault_at stop state.fault ≡ memory_fault) ⊎ Fails (scanner_of y l.session.state) (scanner_of y state) (fault_at stop state.fault)) × Stops (scanner_of y l.session.state) (scanner_of y state)) e w))
 
 -- it is there already
-pub settled_now : (input : List ℕ) (k : yaml_kept_parser_t) → IsScannerOf input k → k.session.over ≡ false → 0 < k.session.state.made
+pub settled_now : (input : List ℕ) (k : scanner_t) → IsScannerOf input k → k.session.over ≡ false → 0 < k.session.state.made
     → (let s = scanner_in (scan_of input k) in s.taken < length (before s.limit (history s))) → KeepsText input k k × HasSettled (scan_of input k) (front k.setting input) k.session
 settled_now input k r o m l =
     let i = scan_of input k in
@@ -300,47 +300,47 @@ settled_now input k r o m l =
       record { sound = v; still_open = o; settled = shown_settled k.setting input (scanner_in i) (record { stands = b.stands; still_open = b.still_open; settled = l }); rest = refl },
     )
 
-pub keeps_now : (input : List ℕ) (k : yaml_kept_parser_t) → IsScannerOf input k → k.session.over ≡ false → 0 < k.session.state.made → KeepsText input k k
+pub keeps_now : (input : List ℕ) (k : scanner_t) → IsScannerOf input k → k.session.over ≡ false → 0 < k.session.state.made → KeepsText input k k
 keeps_now input k r o m = record { setting = refl; text = r.text o m }
 
-pub begun_runs : (input : List ℕ) (k : yaml_kept_parser_t) → IsScannerOf input k → k.session.over ≡ false → 0 < k.session.state.made → IsRunning (scanner_in (scan_of input k))
+pub begun_runs : (input : List ℕ) (k : scanner_t) → IsScannerOf input k → k.session.over ≡ false → 0 < k.session.state.made → IsRunning (scanner_in (scan_of input k))
 begun_runs input k r o m = let b = (begun_before (scan_of input k) r.sound o m).started in b.stands.runs
 
 -- THE PART OF THE INPUT THAT IS THE TEXT
-pub part_as : (input : List ℕ) (k l : yaml_kept_parser_t) (part : Option Text) → l.setting ≡ k.setting → (0 < k.session.state.made → 0 < l.session.state.made) → IsPartOf input k part → IsPartOf input l part
+pub part_as : (input : List ℕ) (k l : scanner_t) (part : Option Text) → l.setting ≡ k.setting → (0 < k.session.state.made → 0 < l.session.state.made) → IsPartOf input k part → IsPartOf input l part
 part_as input k l None e m p = p
 part_as input k l (Some t) e m p = (p.0 ∙ ap (λ (z : yaml_encoding_t). front z input) (sym e), m p.1)
 
-pub part_stays : (input : List ℕ) (k l : yaml_kept_parser_t) (part : Option Text) → l.setting ≡ k.setting → k.session.state.made ≤ l.session.state.made → IsPartOf input k part → IsPartOf input l part
+pub part_stays : (input : List ℕ) (k l : scanner_t) (part : Option Text) → l.setting ≡ k.setting → k.session.state.made ≤ l.session.state.made → IsPartOf input k part → IsPartOf input l part
 part_stays input k l part e m p = part_as input k l part e (λ n. omega arith) p
 
-pub part_stopped : (input : List ℕ) (k l : yaml_kept_parser_t) (part : Option Text) (stop : stop_t) → KeptEnds.StopsAtOnce input k l stop → IsPartOf input k part → IsPartOf input l part
+pub part_stopped : (input : List ℕ) (k l : scanner_t) (part : Option Text) (stop : stop_t) → KeptEnds.StopsAtOnce input k l stop → IsPartOf input k part → IsPartOf input l part
 part_stopped input k l part stop w p = let n = w.1.stopped in part_stays input k l part w.0 n.least p
 
-pub part_settled : (input : List ℕ) (k l : yaml_kept_parser_t) (part : Option Text) → KeepsText input k l → HasSettled (scan_of input k) (front k.setting input) l.session → IsPartOf input k part → IsPartOf input l part
+pub part_settled : (input : List ℕ) (k l : scanner_t) (part : Option Text) → KeepsText input k l → HasSettled (scan_of input k) (front k.setting input) l.session → IsPartOf input k part → IsPartOf input l part
 part_settled input k l part z h p = let n = h.settled in part_as input k l part z.setting (λ m. let b = n.stands.runs.begun in b) p
 
 -- whatever came
-pub part_after : (input : List ℕ) (k l : yaml_kept_parser_t) (part : Option Text) (result : Result (Unit {0}) stop_t) → KeptEnds.Settles input k l result → IsPartOf input k part → IsPartOf input l part
+pub part_after : (input : List ℕ) (k l : scanner_t) (part : Option Text) (result : Result (Unit {0}) stop_t) → KeptEnds.Settles input k l result → IsPartOf input k part → IsPartOf input l part
 part_after input k l part (Ok x) w p = part_settled input k l part w.0 w.1 p
 part_after input k l part (Err stop) w p = part_stopped input k l part stop w p
 
 -- it was found
-pub part_found : (input : List ℕ) (k l : yaml_kept_parser_t) (part : Option Text) → KeepsText input k l → HasSettled (scan_of input k) (front k.setting input) l.session
+pub part_found : (input : List ℕ) (k l : scanner_t) (part : Option Text) → KeepsText input k l → HasSettled (scan_of input k) (front k.setting input) l.session
     → IfSome part (λ text. (t : Text) → IsKeptOf t input l.text → text ≡ t) → IsPartOf input l part
 part_found input k l None z h p = p
 part_found input k l (Some t) z h p = (p (front k.setting input) z.text ∙ ap (λ (e : yaml_encoding_t). front e input) (sym z.setting), let n = h.settled in let b = n.stands.runs.begun in b)
 
 -- the session has gone on
-pub part_goes_on : (input : List ℕ) (l : yaml_kept_parser_t) (s : session_t) (part : Option Text) → (0 < l.session.state.made → 0 < s.state.made) → IsPartOf input l part → IsPartOf input (with_its l s) part
+pub part_goes_on : (input : List ℕ) (l : scanner_t) (s : session_t) (part : Option Text) → (0 < l.session.state.made → 0 < s.state.made) → IsPartOf input l part → IsPartOf input (with_its l s) part
 part_goes_on input l s part m p = part_as input l (with_its l s) part refl m p
 
 -- a fault has ended it
-pub part_ended : (input : List ℕ) (l : yaml_kept_parser_t) (part : Option Text) (w : yaml_fault_t) (s : session_t) → s ≡ ended_by l.session w → IsPartOf input l part → IsPartOf input (with_its l s) part
+pub part_ended : (input : List ℕ) (l : scanner_t) (part : Option Text) (w : yaml_fault_t) (s : session_t) → s ≡ ended_by l.session w → IsPartOf input l part → IsPartOf input (with_its l s) part
 part_ended input l part w s e p = let m = ap (λ (z : session_t). z.state.made) e in part_goes_on input l s part (λ n. omega (arith, m)) p
 
 -- WHAT WENT TO A SINK
-module _ (input : List ℕ) (k l : yaml_kept_parser_t) (z : KeepsText input k l) (s : session_t) where
+module _ (input : List ℕ) (k l : scanner_t) (z : KeepsText input k l) (s : session_t) where
   kept_too : KeepsText input k (with_its l s)
   kept_too = record { setting = z.setting; text = z.text }
 
@@ -361,7 +361,7 @@ module _ (input : List ℕ) (k l : yaml_kept_parser_t) (z : KeepsText input k l)
   gives_over took lacks (Err stop) w = (w.0, w.1, record { setting = z.setting; stops = w.2 })
 
 -- A PEEK
-module _ (p : Parser) (input : List ℕ) (k l : yaml_kept_parser_t) (e : p.input ≡ input) (w : IsKept p k) (r : Bool) (is : IsScannerOf input l) (over : k.session.over ≡ true → (r ≡ true) × (l ≡ k)) where
+module _ (p : Parser) (input : List ℕ) (k l : scanner_t) (e : p.input ≡ input) (w : IsKept p k) (r : Bool) (is : IsScannerOf input l) (over : k.session.over ≡ true → (r ≡ true) × (l ≡ k)) where
   abbrev pub i : Scan
   i = scan_of input k
 
@@ -400,7 +400,7 @@ module _ (p : Parser) (input : List ℕ) (k l : yaml_kept_parser_t) (e : p.input
       go true o =
           let d = sym (over_is p k w) ∙ o in (
             p,
-            subst (λ (z : yaml_kept_parser_t). IsKept p z) (sym (over o).1) w,
+            subst (λ (z : scanner_t). IsKept p z) (sym (over o).1) w,
             show_over p d (idle p.session.peeked refl d),
             λ given h. subst (λ (b : Bool). Scanned p.limit p.setting p.input p (given ++ []) b) (sym h.over) (on_none p given h),
             λ m. absurd (false≢true (sym m ∙ d)),
@@ -414,7 +414,7 @@ module _ (p : Parser) (input : List ℕ) (k l : yaml_kept_parser_t) (e : p.input
       (parser_of j, is_kept input l is, fault_of x.fault, x.kept, subst (λ (z : Parser). GivesToFault PEEK z (parser_of j) (λ tokens. tokens ≡ []) (fault_of x.fault)) seen (peek_to_fault i j refl (unless k.session.over (λ o. false≢true (sym f ∙ (over o).0))) x))
 
 -- of a parser
-pub shows_so : (p : Parser) (input : List ℕ) (k l : yaml_kept_parser_t) → parser_of (scan_of input k) ≡ p → IsScannerOf input k → (r : Bool) → (k.session.over ≡ true → (r ≡ true) × (l ≡ k))
+pub shows_so : (p : Parser) (input : List ℕ) (k l : scanner_t) → parser_of (scan_of input k) ≡ p → IsScannerOf input k → (r : Bool) → (k.session.over ≡ true → (r ≡ true) × (l ≡ k))
     → (r ≡ true → k.session.over ≡ false → ShowsTo (scan_of input k) (scan_of input l)) → (r ≡ false → EndsNow (scan_of input k) (scan_of input l)) → Shows p r (parser_of (scan_of input l))
 shows_so p input k l seen w false over shows ends = let x = ends refl in (fault_of x.fault, x.kept, subst (λ (z : Parser). Calls decoded_input PEEK z (FAULT (fault_of x.fault)) (parser_of (scan_of input l))) seen x.call)
 shows_so p input k l seen w true over shows ends = go k.session.over refl
@@ -425,4 +425,4 @@ shows_so p input k l seen w true over shows ends = go k.session.over refl
         let v = w.sound in
         let q = parser_of (scan_of input k) in
         let d = show_over q o (unless k.session.peeked (λ e. false≢true (sym (v.peeked e).0 ∙ o))) in
-        subst (λ (z : yaml_kept_parser_t). Shows p true (parser_of (scan_of input z))) (sym (over o).1) (subst (λ (z : Parser). Shows z true q) seen d)
+        subst (λ (z : scanner_t). Shows p true (parser_of (scan_of input z))) (sym (over o).1) (subst (λ (z : Parser). Shows z true q) seen d)

@@ -285,7 +285,7 @@ pub takes_as : (i : Scan) (T : Text) (s : session_t) (state : state_t) (x : yaml
 takes_as i T s state x last k p e =
     let F : session_t → Bool → Scan = λ z b. with_session i (record { state = state; lead = z.lead; peeked = false; over = b; failed = z.failed }) in
     subst (λ (b : Bool). Takes i x (F s b)) (sym e) (subst (λ (z : session_t). Takes i x (F z (is_last_type (type_of x.token_data)))) (sym k.rest)
-        (takes i s.state (is_front i T s k) state x (subst (λ (z : Text). Pops (scanner_of z s.state) (scanner_of z state) x) (at_front i T s k) p)))
+    (takes i s.state (is_front i T s k) state x (subst (λ (z : Text). Pops (scanner_of z s.state) (scanner_of z state) x) (at_front i T s k) p)))
 
 pub first_as_shown : (i : Scan) (T : Text) (s : session_t) (x : yaml_token_t) → HasSettled i T s → IsFirst T.encoding (drop s.state.taken (offline (history (scanner_of T s.state)))) x → x ≡ token_shown (shown_in i s.state)
 first_as_shown i T s x k f = first_shown i s.state (is_front i T s k) x (subst (λ (z : Text). IsFirst z.encoding (drop s.state.taken (offline (history (scanner_of z s.state)))) x) (at_front i T s k) f)

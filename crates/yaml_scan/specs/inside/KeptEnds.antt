@@ -3,7 +3,7 @@ use Rattle.std.specs.Prelude.{◌≡◌, ℕ, ◌<◌, Bool, true, false, List, 
 use Rattle.yaml_text.specs.Decode.{front}
 use Rattle.yaml_text.specs.Kept.{IsKeptOf}
 use Rattle.yaml_scan.specs.declared.stop.stop_t.{stop_t}
-use Rattle.yaml_scan.specs.declared.kept.yaml_kept_parser_t.{yaml_kept_parser_t}
+use Rattle.yaml_scan.specs.declared.scanner.scanner_t.{scanner_t}
 use Rattle.yaml_scan.specs.KeptCalls.{HasNoMoreRoom}
 use Rattle.yaml_scan.specs.Token.{yaml_token_t}
 use Rattle.yaml_scan.specs.inside.Kept.{IsScannerOf, scan_of}
@@ -12,36 +12,36 @@ use Rattle.yaml_scan.specs.inside.Ready.{parser_of}
 use Rattle.yaml_scan.specs.inside.Stop.{fault_at}
 
 -- It scans in the same setting, and keeps the text of this input.
-pub record KeepsText (input : List ℕ) (k l : yaml_kept_parser_t) : Type 0 where
+pub record KeepsText (input : List ℕ) (k l : scanner_t) : Type 0 where
   pub setting : l.setting ≡ k.setting
   pub text : IsKeptOf (front k.setting input) input l.text
 
 -- It scans in the same setting, and has stopped.
-pub record HasStopped (input : List ℕ) (k l : yaml_kept_parser_t) (tokens : List yaml_token_t) (stop : stop_t) : Type 0
+pub record HasStopped (input : List ℕ) (k l : scanner_t) (tokens : List yaml_token_t) (stop : stop_t) : Type 0
   where
     pub setting : l.setting ≡ k.setting
     pub stops : StopsAfter (scan_of input k) l.session tokens (fault_at stop l.session.state.fault)
 
 -- the same, at once
-abbrev pub StopsAtOnce : List ℕ → yaml_kept_parser_t → yaml_kept_parser_t → stop_t → Type 0
+abbrev pub StopsAtOnce : List ℕ → scanner_t → scanner_t → stop_t → Type 0
 StopsAtOnce input k l stop = (l.setting ≡ k.setting)
     × StopsNow (scan_of input k) l.session (fault_at stop l.session.state.fault)
 
 -- Its first step was made, now or before; or it could not be made.
-abbrev pub Starts : List ℕ → yaml_kept_parser_t → yaml_kept_parser_t → Result (Unit {0}) stop_t → Type 0
+abbrev pub Starts : List ℕ → scanner_t → scanner_t → Result (Unit {0}) stop_t → Type 0
 Starts input k l result = MatchResult result
     (λ _. KeepsText input k l × HasBegun (scan_of input k) (front k.setting input) l.session)
     (λ stop. StopsAtOnce input k l stop)
 
 -- Its next token is at the head of the queue; or there is a fault.
-abbrev pub Settles : List ℕ → yaml_kept_parser_t → yaml_kept_parser_t → Result (Unit {0}) stop_t → Type 0
+abbrev pub Settles : List ℕ → scanner_t → scanner_t → Result (Unit {0}) stop_t → Type 0
 Settles input k l result = MatchResult result
     (λ _. KeepsText input k l × HasSettled (scan_of input k) (front k.setting input) l.session)
     (λ stop. StopsAtOnce input k l stop)
 
 -- Tokens went to a sink; or none did, and its next token is at the head of the queue, or there is a fault.
 abbrev pub Sends
-    : List ℕ → yaml_kept_parser_t → yaml_kept_parser_t → (List yaml_token_t → Type 0) → Result Bool stop_t → Type 0
+    : List ℕ → scanner_t → scanner_t → (List yaml_token_t → Type 0) → Result Bool stop_t → Type 0
 Sends input k l took result = MatchResult result
     (λ none. KeepsText input k l
     × (none ≡ true → HasSettled (scan_of input k) (front k.setting input) l.session × took [])
@@ -51,7 +51,7 @@ Sends input k l took result = MatchResult result
 
 -- A sink took its next tokens, and there is a reason why no more go there; or there is a fault.
 abbrev pub Gives
-    : List ℕ → yaml_kept_parser_t → yaml_kept_parser_t → (List yaml_token_t → Type 0) → (ℕ → ℕ → Type 0)
+    : List ℕ → scanner_t → scanner_t → (List yaml_token_t → Type 0) → (ℕ → ℕ → Type 0)
     → Result (Unit {0}) stop_t → Type 0
 Gives input k l took lacks result = MatchResult result
     (λ _. KeepsText input k l × ((tokens : List yaml_token_t) × took tokens

@@ -21,4 +21,4 @@ pub returns-clause-sends : goal.returns-clause-sends
 returns-clause-sends g c = λ i b. sends_next i c.args.text.now c.args.session.now c.send_on.new.state (λ ts. g.S.yaml_token_sink_t.took c.args.sink.now ts c.send_on.new.sink) g.S.yaml_token_sink_t.may_refuse c.send_on.result b
     (sym (ap (λ (z : session_t). z.peeked) b.rest) ∙ c.if-session.false) c.requires.takes
     (sent_or_settled_in i.setting i.input (scanner_in i) (scanner_of c.args.text.now c.args.session.now.state) (scanner_of c.args.text.now c.send_on.new.state) b.started
-        (λ ts. g.S.yaml_token_sink_t.took c.args.sink.now ts c.send_on.new.sink) g.S.yaml_token_sink_t.may_refuse c.send_on.result c.send_on.ensures.sends)
+    (λ ts. g.S.yaml_token_sink_t.took c.args.sink.now ts c.send_on.new.sink) g.S.yaml_token_sink_t.may_refuse c.send_on.result c.send_on.ensures.sends)

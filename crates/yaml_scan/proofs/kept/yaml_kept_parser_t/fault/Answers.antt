@@ -1,6 +1,0 @@
-use Rattle.std.proofs.Common.{ap, ◌∙◌}
-use Rattle.yaml_scan.specs.Parser.{Parser}
-use Rattle.yaml_scan.proofs.kept.yaml_kept_parser_t.fault.Goals as goal
-
-pub returns : goal.returns
-returns c = λ p k. c.fault.ensures ∙ ap (λ (z : Parser). z.session.fault) k.seen_as
