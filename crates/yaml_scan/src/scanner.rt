@@ -207,7 +207,7 @@ impl scanner_t {
         if self.session.peeked {
             return Ok(());
         }
-        if let Some(text) = part.as_ref() {
+        if let Some(text) = part {
             return settle_head(text, &mut self.session.state);
         }
         if self.session.state.made > 0 && is_settled(&self.session.state) {

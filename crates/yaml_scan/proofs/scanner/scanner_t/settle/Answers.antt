@@ -1,4 +1,4 @@
-use Rattle.std.proofs.Common.{Option, refl, sym, subst, ◌∙◌, arith, ltb-true}
+use Rattle.std.proofs.Common.{Option, Some, refl, sym, subst, ◌∙◌, arith, ltb-true}
 use Rattle.yaml_text.specs.Decode.{front}
 use Rattle.yaml_text.specs.Text.{Text}
 use Rattle.yaml_scan.specs.inside.Kept.{IsPartOf, scan_of}
@@ -13,27 +13,27 @@ returns-then-self-clause-settles c = settled_shown c.args.input.now c.args.self.
 -- THE TEXT IS A PART OF THE INPUT
 pub settle_head-requires-clause-runs : goal.settle_head-requires-clause-runs
 settle_head-requires-clause-runs c =
-    let w = (subst (λ (o : Option Text). IsPartOf c.args.input.now c.args.self.now o) (sym c.in-Some.ensures.value) c.requires.part) in
+    let w = (subst (λ (o : Option Text). IsPartOf c.args.input.now c.args.self.now o) c.in-Some.is c.requires.part) in
     subst (λ (z : Text). IsRunning (scanner_of z c.args.self.now.session.state)) (sym w.0) (begun_runs c.args.input.now c.args.self.now c.requires.is c.requires.still_open w.1)
 
 pub settle_head-requires-clause-not_ended : goal.settle_head-requires-clause-not_ended
 settle_head-requires-clause-not_ended c =
-    let w = (subst (λ (o : Option Text). IsPartOf c.args.input.now c.args.self.now o) (sym c.in-Some.ensures.value) c.requires.part) in
+    let w = (subst (λ (o : Option Text). IsPartOf c.args.input.now c.args.self.now o) c.in-Some.is c.requires.part) in
     let b = (begun_before (scan_of c.args.input.now c.args.self.now) c.requires.is.sound c.requires.still_open w.1).started in
     subst (λ (z : Text). IsOpen (scanner_of z c.args.self.now.session.state)) (sym w.0) b.still_open
 
 pub returns-in-Some-clause-settles : goal.returns-in-Some-clause-settles
 returns-in-Some-clause-settles c =
-    let w = (subst (λ (o : Option Text). IsPartOf c.args.input.now c.args.self.now o) (sym c.in-Some.ensures.value) c.requires.part) in
+    let w = (subst (λ (o : Option Text). IsPartOf c.args.input.now c.args.self.now o) c.in-Some.is c.requires.part) in
     let k = c.args.self.now in
     settles_over c.args.input.now k k (keeps_now c.args.input.now k c.requires.is c.requires.still_open w.1) (begun_before (scan_of c.args.input.now k) c.requires.is.sound c.requires.still_open w.1) c.if-self.false c.settle_head.new.state _ w.0 c.settle_head.result c.settle_head.ensures
 
 pub returns-in-Some-clause-part : goal.returns-in-Some-clause-part
 returns-in-Some-clause-part c =
-    let w = (subst (λ (o : Option Text). IsPartOf c.args.input.now c.args.self.now o) (sym c.in-Some.ensures.value) c.requires.part) in
+    let w = (subst (λ (o : Option Text). IsPartOf c.args.input.now c.args.self.now o) c.in-Some.is c.requires.part) in
     let k = c.args.self.now in
     let z = settles_over c.args.input.now k k (keeps_now c.args.input.now k c.requires.is c.requires.still_open w.1) (begun_before (scan_of c.args.input.now k) c.requires.is.sound c.requires.still_open w.1) c.if-self.false c.settle_head.new.state _ w.0 c.settle_head.result c.settle_head.ensures in
-    part_after c.args.input.now k _ c.args.part.now c.settle_head.result z c.requires.part
+    part_after c.args.input.now k _ (Some c.in-Some.text) c.settle_head.result z w
 
 -- THE NEXT TOKEN IS THERE
 pub is_settled-requires : goal.is_settled-requires
