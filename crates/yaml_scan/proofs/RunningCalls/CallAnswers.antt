@@ -137,10 +137,6 @@ module _ (setting : yaml_encoding_t) (input : List ℕ) (s t u : Scanner) (x : y
       let q = p.taken in
       omega arith
 
-  pub reach_u : u.reach ≡ reach (first_steps u.made (course_in u.limit setting input).read)
-  unfolding history
-  reach_u = p.runs.holds.reach ∙ ap (λ (c : Course). reach (first_steps u.made c.read)) (course_is setting input u stands_u.reads)
-
   -- the token that was shown, and what is left
   module _ (m : t.made ≡ s.made) (fault : Option Fault) where
     abbrev showing : Session
@@ -316,11 +312,6 @@ module _ (p q : Parser) (o : p.session.over ≡ false) where
   shown_token : (x : yaml_token_t) → PEEKED x ≡ answered p PEEK → (y : Token) × (next ≡ Some y) × (x ≡ handed_out (input_read p).encoding y)
   shown_token x a = peeked_token (input_read p).encoding (course_read p) next x (a ∙ open_peek)
 
-  pub is_peeked : Shows p true q → q.session.peeked ≡ true
-  is_peeked (inl a) = let y = shown_token (token_shown q) a.0 in
-      ap (λ (z : Parser). z.session.peeked) a.1 ∙ ap (λ (z : Session). z.peeked) (left_peek ∙ ap (λ (n : Option Token). after_peek p.limit (course_read p) p.session n) y.1)
-  is_peeked (inr a) = absurd (let n = a.0 in cc)
-
   taken_after : (y : Token) → next ≡ Some y → after_call (after_call p PEEK) SKIP ≡ after_call p SCAN
   unfolding course_by
   taken_after y n = ap (λ (z : Session). record { input = p.input; setting = p.setting; limit = p.limit; session = z }) (take_after_peek p.limit (course_read p) p.session y o n)
@@ -405,9 +396,6 @@ module _ (setting : yaml_encoding_t) (input : List ℕ) (s t : Scanner) (peeked 
 
   pub show_fault_on : (q : Parser) → q ≡ open_parser → IsShort setting input s (fault_of f) ⊎ IsEnded setting input s t (fault_of f) → peeked ≡ false → Calls decoded_input PEEK q (FAULT (fault_of f)) stopped
   show_fault_on q r e n = subst (λ (x : Parser). Calls decoded_input PEEK x (FAULT (fault_of f)) stopped) (sym r) (show_fault e n)
-
-  pub show_fault_of : (q : Parser) → q ≡ open_parser → IsShort setting input s (fault_of f) ⊎ IsEnded setting input s t (fault_of f) → peeked ≡ false → Shows q false stopped
-  show_fault_of q r e n = (fault_of f, refl, show_fault_on q r e n)
 
 pub open_session : (p : Parser) → p.session.over ≡ false → p ≡ record { input = p.input; setting = p.setting; limit = p.limit; session = record { taken = p.session.taken; steps = p.session.steps; peeked = p.session.peeked; over = false; fault = p.session.fault } }
 open_session p o = λ k. record { input = p.input; setting = p.setting; limit = p.limit; session = record { taken = p.session.taken; steps = p.session.steps; peeked = p.session.peeked; over = o k; fault = p.session.fault } }

@@ -22,7 +22,6 @@ use Rattle.yaml_scan.specs.KeptCalls.{ComesFirst, GivesMore, GivesToFault, HasNo
 use Rattle.yaml_scan.specs.Parser.{Parser}
 use Rattle.yaml_scan.specs.ParserCalls.{scan_result, token_shown}
 use Rattle.yaml_scan.specs.Scanned.{GoesOnBy, Scanned}
-use Rattle.yaml_scan.specs.Session.{Call}
 use Rattle.yaml_scan.specs.Session.Call.{PEEK, SCAN}
 use Rattle.yaml_scan.specs.Session.Answer.{FAULT, PEEKED}
 use Rattle.yaml_scan.specs.Token.{yaml_token_t}

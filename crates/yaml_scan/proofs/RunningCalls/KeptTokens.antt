@@ -32,7 +32,6 @@ use Rattle.yaml_scan.specs.inside.Scanner.{Scanner, scanner_of}
 use Rattle.yaml_scan.specs.inside.Scanning.{Fails, Settles, Stops, history}
 use Rattle.yaml_scan.specs.inside.Sent.{HasSent, HasSentOrSettled}
 use Rattle.yaml_scan.specs.inside.Stop.{fault_at}
-use Rattle.yaml_scan.specs.inside.Shown.{Shows}
 use Rattle.yaml_scan.proofs.RunningCalls.CallAnswers.{head_shown, last_is, none_failed, open_as, open_u, scan_shown, show_token, shown_as, shown_session, shown_settled, stands_u, take_left_of, take_told_of, token_some}
 use Rattle.yaml_scan.proofs.RunningCalls.ParserInvariant.{Keeps}
 use Rattle.yaml_scan.proofs.RunningCalls.KeptGoesOn.{first_more, first_unless, first_when, is_shown, left_by_peek, on_more, on_none, peeks_on}

@@ -6,7 +6,7 @@ use Rattle.yaml_scan.specs.declared.stop.stop_t.{stop_t}
 use Rattle.yaml_scan.specs.declared.scanner.scanner_t.{scanner_t}
 use Rattle.yaml_scan.specs.KeptCalls.{HasNoMoreRoom}
 use Rattle.yaml_scan.specs.Token.{yaml_token_t}
-use Rattle.yaml_scan.specs.inside.Kept.{IsScannerOf, scan_of}
+use Rattle.yaml_scan.specs.inside.Kept.{scan_of}
 use Rattle.yaml_scan.specs.inside.KeptParts.{GoesOnTo, HasBegun, HasSettled, StopsAfter, StopsNow}
 use Rattle.yaml_scan.specs.inside.Ready.{parser_of}
 use Rattle.yaml_scan.specs.inside.Stop.{fault_at}

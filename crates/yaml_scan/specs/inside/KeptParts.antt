@@ -1,6 +1,5 @@
 -- The calls of a scan, by what they make of its session.
 use Rattle.std.specs.Prelude.{◌≡◌, ◌⊎◌, ℕ, ◌<◌, Bool, true, false, List, [], ◌∷◌, MatchResult, Result, Ok, Err, Some}
-use Rattle.yaml_text.specs.Decode.{front}
 use Rattle.yaml_text.specs.Fault.{Fault, fault_of}
 use Rattle.yaml_text.specs.Text.{Text}
 use Rattle.yaml_text.specs.declared.fault.yaml_fault_t.{yaml_fault_t}
@@ -18,7 +17,7 @@ use Rattle.yaml_scan.specs.Session.Answer.{FAULT, PEEKED, TOKEN}
 use Rattle.yaml_scan.specs.Token.{yaml_token_t}
 use Rattle.yaml_scan.specs.inside.Ready.{IsEnded, IsSettled, IsShort, IsShown, IsStarted, IsStopped, Scan, Sound}
 use Rattle.yaml_scan.specs.inside.Ready.{fault_in, parser_of, scanner_in, with_session}
-use Rattle.yaml_scan.specs.inside.Scanner.{Scanner, scanner_of}
+use Rattle.yaml_scan.specs.inside.Scanner.{scanner_of}
 use Rattle.yaml_scan.specs.inside.Sent.{HasSent}
 use Rattle.yaml_scan.specs.inside.Stop.{fault_at}
 

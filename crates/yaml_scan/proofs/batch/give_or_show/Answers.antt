@@ -1,7 +1,6 @@
-use Rattle.std.proofs.Common.{◌≡◌, ◌∷◌, ◌-◌, [], Bool, true, false, List, Ok, length, sym, ◌∙◌, subst}
+use Rattle.std.proofs.Common.{◌∷◌, ◌-◌, [], Bool, Ok, length, subst}
 use Rattle.std.proofs.lemmas.Bool.{false≢true}
 use Rattle.std.proofs.lemmas.Result.{err_from_is_err_and}
-use Rattle.yaml_scan.specs.Token.{yaml_token_t}
 use Rattle.yaml_scan.specs.inside.Given.{all_in}
 use Rattle.yaml_scan.specs.inside.KeptParts.{SendsNext}
 use Rattle.yaml_scan.specs.inside.Ready.{parser_of, scanner_in, with_session}

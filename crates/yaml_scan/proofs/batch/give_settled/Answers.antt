@@ -1,4 +1,4 @@
-use Rattle.std.proofs.Common.{◌∷◌, [], refl}
+use Rattle.std.proofs.Common.{refl}
 use Rattle.yaml_scan.specs.inside.Scanner.{scanner_of}
 use Rattle.yaml_scan.proofs.RunningCalls.GivenToEnd.{head_words, words_then}
 use Rattle.yaml_scan.proofs.RunningCalls.KeptFewer.{fewer_popped}

@@ -1,6 +1,5 @@
-use Rattle.std.proofs.Common.{◌≡◌, ◌<◌, Bool, Err, List, [], ◌∷◌, Option, None, Some, length, false, true, refl, sym, ap, ◌∙◌, subst, arith}
+use Rattle.std.proofs.Common.{Bool, Err, List, [], ◌∷◌, Option, None, Some, false, refl, sym, ap, ◌∙◌, subst, arith}
 use Rattle.yaml_text.specs.Decode.{front}
-use Rattle.yaml_text.specs.Fault.{fault_of}
 use Rattle.yaml_text.specs.Token.{token_of}
 use Rattle.yaml_text.specs.declared.token.yaml_token_t.{yaml_token_t as code_token_t}
 use Rattle.yaml_scan.specs.Decoded.{decoded_input}

@@ -4,7 +4,7 @@ use Rattle.yaml_scan.specs.KeptCalls.{GivesMore, GivesToFault}
 use Rattle.yaml_scan.specs.Parser.{Parser}
 use Rattle.yaml_scan.specs.Session.Call.{SCAN}
 use Rattle.yaml_scan.specs.Token.{yaml_token_t}
-use Rattle.yaml_scan.specs.inside.Kept.{IsKept, scan_of}
+use Rattle.yaml_scan.specs.inside.Kept.{scan_of}
 use Rattle.yaml_scan.specs.inside.Ready.{parser_of}
 use Rattle.yaml_scan.proofs.RunningCalls.KeptCalls.{fault_is, gives_more, gives_none, gives_to_fault, is_kept, is_left_so, over_is, over_this, stopped_left}
 use Rattle.yaml_scan.proofs.scanner.yaml_kept_scan_to.Goals as goal

@@ -1,4 +1,4 @@
-use Rattle.std.proofs.Common.{Some, sym, ap, ◌∙◌}
+use Rattle.std.proofs.Common.{sym, ap, ◌∙◌}
 use Rattle.yaml_scan.specs.Parser.{Parser}
 use Rattle.yaml_scan.proofs.parser.yaml_parser_t.last_fault.Goals as goal
 

@@ -1,4 +1,4 @@
-use Rattle.std.proofs.Common.{Err, sym, subst}
+use Rattle.std.proofs.Common.{sym, subst}
 use Rattle.yaml_text.specs.Decode.{front}
 use Rattle.yaml_text.specs.Token.{token_of}
 use Rattle.yaml_scan.specs.Decoded.{decoded_input}

@@ -1,4 +1,4 @@
-use Rattle.std.proofs.Common.{Option, Some, refl, sym, subst, ◌∙◌, arith, ltb-true}
+use Rattle.std.proofs.Common.{Option, Some, sym, subst, ◌∙◌, arith, ltb-true}
 use Rattle.yaml_text.specs.Decode.{front}
 use Rattle.yaml_text.specs.Text.{Text}
 use Rattle.yaml_scan.specs.inside.Kept.{IsPartOf, scan_of}

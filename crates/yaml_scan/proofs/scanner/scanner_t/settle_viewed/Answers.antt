@@ -1,9 +1,8 @@
-use Rattle.std.proofs.Common.{refl, sym, subst}
+use Rattle.std.proofs.Common.{sym, subst}
 use Rattle.std.proofs.lemmas.Result.{err_from_is_err_and}
 use Rattle.yaml_text.specs.Decode.{front}
 use Rattle.yaml_text.specs.Text.{Text}
 use Rattle.yaml_scan.specs.declared.scanner.scanner_t.{scanner_t}
-use Rattle.yaml_scan.specs.inside.Kept.{scan_of}
 use Rattle.yaml_scan.specs.inside.KeptEnds.{Settles}
 use Rattle.yaml_scan.specs.inside.Scanner.{scanner_of}
 use Rattle.yaml_scan.specs.inside.Scanning.{IsOpen, IsRunning}

@@ -1,5 +1,3 @@
-use Rattle.std.proofs.Common.{false, true, refl, sym, ◌∙◌}
-use Rattle.std.proofs.lemmas.Bool.{false≢true}
 use Rattle.yaml_text.specs.Decode.{front}
 use Rattle.yaml_scan.specs.inside.Kept.{scan_of}
 use Rattle.yaml_scan.specs.inside.KeptParts.{ShowsTo}
