@@ -130,11 +130,12 @@ def rattle_calls():
     """The functions that lib.rt of yaml_scan makes public, and the public functions of the parsers."""
     uses = re.findall(r"(?s)\npub use [\w:]+::\{?(.*?)\}?;", read("crates/yaml_scan/src/lib.rt"))
     names = set(re.findall(r"\w+", " ".join(uses)))
+    shown = dict(re.findall(r"(\w+) as (\w+)", " ".join(uses)))
     sources = [read(path) for crate in ("yaml_scan", "yaml_lexeme", "yaml_text") for path in found(f"crates/{crate}/src/*.rt")]
     yield from sorted(names & set(re.findall(r"(?m)^pub fn (\w+)", "".join(sources))))
     for text in sources:
-        for kind, body in re.findall(r"(?ms)^impl(?:<'a>)? (yaml_parser_t|yaml_kept_parser_t)\S* \{\n(.*?)^\}", text):
-            yield from (f"{kind}::{name}" for name in re.findall(r"(?m)^    pub fn (\w+)", body))
+        for kind, body in re.findall(r"(?ms)^impl(?:<'a>)? (yaml_parser_t|scanner_t)\S* \{\n(.*?)^\}", text):
+            yield from (f"{shown.get(kind, kind)}::{name}" for name in re.findall(r"(?m)^    pub fn (\w+)", body))
 
 
 def c_calls():
