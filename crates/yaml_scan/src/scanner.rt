@@ -142,6 +142,19 @@ impl scanner_t {
         self.session.shown()
     }
 
+    /// Makes the first step over the input. It is called once, and is not inlined.
+    #[cold]
+    #[inline(never)]
+    fn start_anew(&mut self, input: &[u8]) -> Result<(), stop_t>
+        requires is { IsScannerOf input.now self.old }
+        requires still_open { self.old.session.over ≡ false }
+        requires new { self.old.session.state.made ≡ 0 }
+        ensures { Starts input.now self.old self.new result }
+    {
+        self.text = begin(&mut self.session.state, input, self.setting)?;
+        Ok(())
+    }
+
     /// Makes the first step over the input, if it was not made.
     #[inline(always)]
     fn start(&mut self, input: &[u8]) -> Result<(), stop_t>
@@ -152,8 +165,7 @@ impl scanner_t {
         if self.session.state.made > 0 {
             return Ok(());
         }
-        self.text = begin(&mut self.session.state, input, self.setting)?;
-        Ok(())
+        self.start_anew(input)
     }
 
     /// Makes the steps that the next token needs: none if it was peeked. The text is viewed for it.
@@ -260,7 +272,7 @@ impl scanner_t {
                 true
             }
             Err(stop) => {
-                let _ = self.session.end(stop);
+                self.session.close(stop);
                 false
             }
         }
@@ -334,7 +346,7 @@ pub fn yaml_kept_scan_to<S: yaml_token_sink_t>(
     match kept.give(input, sink) {
         Ok(_) => false,
         Err(stop) => {
-            let _ = kept.session.end(stop);
+            kept.session.close(stop);
             true
         }
     }

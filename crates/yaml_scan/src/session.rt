@@ -110,6 +110,17 @@ impl session_t {
         self.failed = true;
         fault
     }
+
+    /// Ends the session with the fault of a stop, which the state keeps. Where nobody takes the fault, this keeps it off
+    /// the stack of the caller.
+    #[cold]
+    #[inline(never)]
+    pub(crate) fn close(&mut self, stop: stop_t)
+        ensures { (fault : yaml_fault_t) × (fault_of fault ≡ fault_at stop self.old.state.fault)
+            × (self.new ≡ ended_by self.old fault) }
+    {
+        let _ = self.end(stop);
+    }
 }
 
 /// Whether a token is the stream end.

@@ -1,5 +1,5 @@
 //! Decoding: the text that an input spells, or its longest front and what is wrong after it.
-ghost use Rattle.std.specs.Prelude.{◌≡◌, ◌+◌, ◌<◌, ◌≤◌, ◌^◌, ◌⊎◌, option_map, length, take, drop, true, false};
+ghost use Rattle.std.specs.Prelude.{◌≡◌, ◌+◌, ◌<◌, ◌≤◌, ◌^◌, ◌⊎◌, ℕ, List, option_map, length, take, drop, true, false};
 ghost use Rattle.std.specs.Prelude.{IfOk, IfErr, IsOk, IsNone, IfSome};
 ghost use Rattle.yaml_text.specs.Chars.{utf8};
 ghost use Rattle.yaml_text.specs.TextBytes.{IsText};
@@ -115,19 +115,20 @@ fn order(big: bool) -> yaml_encoding_t
     }
 }
 
-/// What is kept of the front in UTF-16 of what begins `before` bytes into the input: its bytes in UTF-8. Each order of
-/// bytes has a function of its own.
+/// What is kept of the front in UTF-16 of bytes that begin `before` bytes into the input: its bytes in UTF-8. Each order
+/// of bytes has a function of its own.
 #[inline(never)]
 fn front_in_utf16<const BIG: bool>(
     alloc: Global,
-    input: &[u8],
+    bytes: &[u8],
     before: usize,
 ) -> Result<(yaml_kept_text_t, Option<yaml_fault_t>), yaml_fault_t>
-    requires { before ≤ length input.now }
-    ensures front { IfOk result (λ r. KeepsFront (order BIG) before input.now r.0 (refusal_seen r.1)) }
+    requires { before + length bytes.now < 2 ^ 64 }
+    ensures front { IfOk result (λ r. (input : List ℕ) → before ≤ length input → bytes.now ≡ drop before input
+        → KeepsFront (order BIG) before input r.0 (refusal_seen r.1)) }
     ensures memory { IfErr result (λ fault. fault_of fault ≡ memory_fault) }
 {
-    let Ok((utf8, len, offence)) = front16(alloc, rest(input, before), BIG) else {
+    let Ok((utf8, len, offence)) = front16(alloc, bytes, BIG) else {
         return Err(make_memory_fault());
     };
     let kept = kept_bytes(order(BIG), utf8);
@@ -146,7 +147,7 @@ fn copied_front<const BIG: bool>(
     ensures front { IfOk result (λ r. KeepsFront (order BIG) before input.now r.0 (refusal_seen r.1)) }
     ensures memory { IfErr result (λ fault. fault_of fault ≡ memory_fault) }
 {
-    front_in_utf16::<BIG>(alloc, input, before)
+    front_in_utf16::<BIG>(alloc, rest(input, before), before)
 }
 
 impl yaml_kept_text_t {

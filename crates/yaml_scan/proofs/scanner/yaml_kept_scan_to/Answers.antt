@@ -46,13 +46,13 @@ returns-in-Err-clause-fault g c = λ result p e k.
     let w = c.in-Err.ensures.gives in
     let h = w.2 in
     let s = h.stops in
-    let f = c.end.ensures.fault in
-    let d = c.end.ensures.left in
+    let f = c.close.ensures.1 in
+    let d = c.close.ensures.2 in
     let took : List yaml_token_t → Type 0 = λ ts. g.S.yaml_token_sink_t.took c.args.sink.now ts c.give.new.sink in
-    let j = scan_of x (record { setting = l.setting; text = l.text; session = c.end.new.self }) in (
+    let j = scan_of x (record { setting = l.setting; text = l.text; session = c.close.new.self }) in (
       parser_of j,
-      is_kept x _ (stopped_left x a l h.setting s.last c.end.result _ f s.stops c.end.new.self d),
-      fault_of c.end.result,
-      fault_is x a l h.setting s.last c.end.result _ f s.stops c.end.new.self d,
-      subst (λ (q : Parser). GivesToFault SCAN q (parser_of j) took (fault_of c.end.result)) (over_this p x a e k).1 (gives_to_fault x a l h.setting s.last c.end.result _ f s.stops c.end.new.self d w.0 s.on s.first c.if-kept.false took w.1),
+      is_kept x _ (stopped_left x a l h.setting s.last c.close.ensures.0 _ f s.stops c.close.new.self d),
+      fault_of c.close.ensures.0,
+      fault_is x a l h.setting s.last c.close.ensures.0 _ f s.stops c.close.new.self d,
+      subst (λ (q : Parser). GivesToFault SCAN q (parser_of j) took (fault_of c.close.ensures.0)) (over_this p x a e k).1 (gives_to_fault x a l h.setting s.last c.close.ensures.0 _ f s.stops c.close.new.self d w.0 s.on s.first c.if-kept.false took w.1),
     )

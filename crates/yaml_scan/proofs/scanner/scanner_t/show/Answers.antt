@@ -16,10 +16,10 @@ returns-in-Ok-clause-shows c = λ r o. let k = c.in-Ok.ensures.settles in
     at_setting c.args.input.now c.args.self.now c.settle.new.self k.0.setting c.show.new.self (λ j. ShowsTo i j) t.0
 
 pub returns-in-Err-clause-is : goal.returns-in-Err-clause-is
-returns-in-Err-clause-is c = let k = c.in-Err.ensures.settles in stopped_left c.args.input.now c.args.self.now c.settle.new.self k.0 c.args.self.now.session c.end.result _ c.end.ensures.fault k.1 c.end.new.self c.end.ensures.left
+returns-in-Err-clause-is c = let k = c.in-Err.ensures.settles in stopped_left c.args.input.now c.args.self.now c.settle.new.self k.0 c.args.self.now.session c.close.ensures.0 _ c.close.ensures.1 k.1 c.close.new.self c.close.ensures.2
 
 pub returns-in-Err-clause-fault : goal.returns-in-Err-clause-fault
-returns-in-Err-clause-fault c = λ r. let k = c.in-Err.ensures.settles in ends_so c.args.input.now c.args.self.now c.settle.new.self k.0 c.args.self.now.session c.end.result _ c.end.ensures.fault k.1 c.end.new.self c.end.ensures.left
+returns-in-Err-clause-fault c = λ r. let k = c.in-Err.ensures.settles in ends_so c.args.input.now c.args.self.now c.settle.new.self k.0 c.args.self.now.session c.close.ensures.0 _ c.close.ensures.1 k.1 c.close.new.self c.close.ensures.2
 
 pub returns-in-Ok-clause-part : goal.returns-in-Ok-clause-part
 returns-in-Ok-clause-part c = let k = c.in-Ok.ensures.settles in
@@ -27,4 +27,4 @@ returns-in-Ok-clause-part c = let k = c.in-Ok.ensures.settles in
     part_goes_on c.args.input.now c.settle.new.self c.show.new.self c.settle.new.part (λ m. t.0.stands.begun) c.in-Ok.ensures.part
 
 pub returns-in-Err-clause-part : goal.returns-in-Err-clause-part
-returns-in-Err-clause-part c = part_ended c.args.input.now c.settle.new.self c.settle.new.part c.end.result c.end.new.self c.end.ensures.left c.in-Err.ensures.part
+returns-in-Err-clause-part c = part_ended c.args.input.now c.settle.new.self c.settle.new.part c.close.ensures.0 c.close.new.self c.close.ensures.2 c.in-Err.ensures.part
