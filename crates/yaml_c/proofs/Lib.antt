@@ -5,6 +5,5 @@ pub mod ShownTokens
 pub mod Batches
 pub mod Looks
 pub mod BatchEnds
-pub mod SameEnds
 pub mod NothingHeld
 pub mod EndMark

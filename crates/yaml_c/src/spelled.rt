@@ -1,6 +1,5 @@
 //! Where a value stands in the input as it is.
-ghost use Rattle.std.specs.Prelude.{ℕ, ◌≡◌, ◌+◌, ◌≤◌, ◌<◌, Some, false, length, nat_eq, slice_index};
-ghost use Rattle.std.specs.Cmp.Lexicographic.{pointwise};
+ghost use Rattle.std.specs.Prelude.{◌≡◌, Some, nat_eq};
 ghost use Rattle.std.specs.List.{starts_with};
 ghost use Rattle.yaml_c.specs.Spelled.{place_of, skipped_of};
 ghost use Rattle.yaml_c.specs.inside.Spelled.{spelled_of};
@@ -32,56 +31,12 @@ pub(crate) fn skipped_of(setting: yaml_encoding_t, input: &[u8]) -> Option<u64>
     }
 }
 
-/// Whether two texts differ in so many bytes from a place on. There is no early exit, so that a run whose length is a
-/// constant is compared at once.
-#[inline(always)]
-fn differ_in_run(a: &[u8], b: &[u8], from: usize, count: usize) -> bool
-    requires a { from + count ≤ length a.now }
-    requires b { from + count ≤ length b.now }
-    ensures alike { result ≡ false → (k : ℕ) → from ≤ k → k < from + count
-        → slice_index a.now k ≡ slice_index b.now k }
-    ensures same { a.now ≡ b.now → result ≡ false }
-{
-    let mut found = false;
-    for k in 0..count {
-        found |= a[from + k] != b[from + k];
-    }
-    found
-}
-
-/// Whether two texts of one length are the same, which is at most twice this number: their first bytes, that many, and
-/// their last.
-#[inline(always)]
-fn have_same_ends(a: &[u8], b: &[u8], count: usize) -> bool
-    requires same { length a.now ≡ length b.now }
-    requires least { count ≤ length a.now }
-    requires most { length a.now ≤ count + count }
-    ensures { result ≡ pointwise nat_eq b.now a.now }
-{
-    let differ = differ_in_run(a, b, 0, count) | differ_in_run(a, b, a.len() - count, count);
-    !differ
-}
-
 /// Whether a text begins with a value. It is called and not inlined, so that what puts a token stays small.
 #[inline(never)]
 fn begins_with(text: &[u8], value: &[u8]) -> bool
     ensures { result ≡ starts_with nat_eq text.now value.now }
 {
-    let len = value.len();
-    if len > 16 || len > text.len() {
-        return text.starts_with(value);
-    }
-    let front = &text[..len];
-    if len >= 8 {
-        return have_same_ends(front, value, 8);
-    }
-    if len >= 4 {
-        return have_same_ends(front, value, 4);
-    }
-    if len >= 2 {
-        return have_same_ends(front, value, 2);
-    }
-    len == 0 || front[0] == value[0]
+    text.starts_with(value)
 }
 
 /// The place of a value that may stand so many bytes after an index in the text.
