@@ -238,9 +238,15 @@ pub fn yaml_scan_next_to<S: yaml_token_sink_t>(
             Err(fault) => Err(fault),
         };
     }
-    let settled = match parser.scanner.send(parser.input, sink) {
+    let settled = match parser.scanner.send(parser.input, &mut parser.part, sink) {
         Ok(settled) => settled,
-        Err(stop) => return Err(parser.scanner.session.end(stop)),
+        Err(stop) => {
+            parser.scanner.session.close(stop);
+            return match parser.scanner.session.fault() {
+                Some(fault) => Err(*fault),
+                None => unreachable!(),
+            };
+        }
     };
     if !settled {
         return Ok(None);

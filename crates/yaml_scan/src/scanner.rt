@@ -183,7 +183,8 @@ impl scanner_t {
         settle_head(&text, &mut self.session.state)
     }
 
-    /// Makes the steps that the next token needs, and puts the text into `part` if it is a part of the input.
+    /// Makes the first step and those that the next token needs, and puts the text into `part` if it is a part of the
+    /// input.
     #[cold]
     #[inline(never)]
     fn settle_apart<'a>(
@@ -222,10 +223,13 @@ impl scanner_t {
         if let Some(text) = part {
             return settle_head(text, &mut self.session.state);
         }
-        if self.session.state.made > 0 && is_settled(&self.session.state) {
+        if self.session.state.made == 0 {
+            return self.settle_apart(input, part);
+        }
+        if is_settled(&self.session.state) {
             return Ok(());
         }
-        self.settle_apart(input, part)
+        self.settle_viewed(input)
     }
 
     /// Takes the next token; after the end of the session the empty one. Returns the fault that ends the session, once.
@@ -247,7 +251,13 @@ impl scanner_t {
         }
         match self.settle(input, part) {
             Ok(_) => Ok(self.session.take()),
-            Err(stop) => Err(self.session.end(stop)),
+            Err(stop) => {
+                self.session.close(stop);
+                match self.session.fault() {
+                    Some(fault) => Err(*fault),
+                    None => unreachable!(),
+                }
+            }
         }
     }
 
@@ -279,9 +289,9 @@ impl scanner_t {
     }
 
     /// Makes the first step, if it was not made, and then has tokens go to the sink, or makes the steps that the next
-    /// token needs. Returns whether no token went there.
+    /// token needs. Returns whether no token went there. The text is viewed for it.
     #[inline(always)]
-    pub(crate) fn send<S: yaml_token_sink_t>(
+    fn send_viewed<S: yaml_token_sink_t>(
         &mut self,
         input: &[u8],
         sink: &mut S,
@@ -295,6 +305,55 @@ impl scanner_t {
         self.start(input)?;
         let text = self.text.view(input);
         send_or_wait(&text, &mut self.session, sink)
+    }
+
+    /// Makes the first step, and then has tokens go to the sink, or makes the steps that the next token needs. Puts the
+    /// text into `part` if it is a part of the input. Returns whether no token went there.
+    #[cold]
+    #[inline(never)]
+    fn send_apart<'a, S: yaml_token_sink_t>(
+        &mut self,
+        input: &'a [u8],
+        part: &mut Option<yaml_text_t<'a>>,
+        sink: &mut S,
+    ) -> Result<bool, stop_t>
+        requires is { IsScannerOf input.now self.old }
+        requires still_open { self.old.session.over ≡ false }
+        requires takes { S.may_refuse → ⊥ }
+        requires part { IsPartOf input.now self.old part.old }
+        ensures sends { Sends input.now self.old self.new (λ tokens. S.took sink.old tokens sink.new) result }
+        ensures part { IsPartOf input.now self.new part.new }
+        ensures within { S.within sink.old → S.within sink.new }
+    {
+        let settled = self.send_viewed(input, sink)?;
+        *part = self.text.part(input);
+        Ok(settled)
+    }
+
+    /// Has tokens go to the sink, or makes the steps that the next token needs. Returns whether no token went there.
+    /// `part` has the text, if that is known to be a part of the input, as for a scan.
+    #[inline(always)]
+    pub(crate) fn send<'a, S: yaml_token_sink_t>(
+        &mut self,
+        input: &'a [u8],
+        part: &mut Option<yaml_text_t<'a>>,
+        sink: &mut S,
+    ) -> Result<bool, stop_t>
+        requires is { IsScannerOf input.now self.old }
+        requires still_open { self.old.session.over ≡ false }
+        requires takes { S.may_refuse → ⊥ }
+        requires part { IsPartOf input.now self.old part.old }
+        ensures sends { Sends input.now self.old self.new (λ tokens. S.took sink.old tokens sink.new) result }
+        ensures part { IsPartOf input.now self.new part.new }
+        ensures within { S.within sink.old → S.within sink.new }
+    {
+        if let Some(text) = part {
+            return send_or_wait(text, &mut self.session, sink);
+        }
+        if self.session.state.made == 0 {
+            return self.send_apart(input, part, sink);
+        }
+        self.send_viewed(input, sink)
     }
 
     /// Gives the next tokens to a sink that has room for one, until the stream end was given or it has no room for the
@@ -367,5 +426,13 @@ pub fn yaml_kept_peek(kept: &mut scanner_t, input: &[u8]) -> bool
         → (q : Parser) × IsKept q kept.new × (fault : Fault) × (q.session.fault ≡ Some fault)
         × GivesToFault PEEK p q (λ tokens. tokens ≡ []) fault }
 {
-    !kept.show(input, &mut None)
+    if kept.session.over {
+        return false;
+    }
+    if let Err(stop) = kept.settle_viewed(input) {
+        kept.session.close(stop);
+        return true;
+    }
+    kept.session.show();
+    false
 }

@@ -97,29 +97,19 @@ impl session_t {
         }
     }
 
-    /// Ends the session with the fault of a stop, and keeps that.
-    #[cold]
-    pub(crate) fn end(&mut self, stop: stop_t) -> yaml_fault_t
-        ensures fault { fault_of result ≡ fault_at stop self.old.state.fault }
-        ensures left { self.new ≡ ended_by self.old result }
-    {
-        let fault = fault_at(stop, &self.state.fault);
-        self.state.fault = Some(fault);
-        self.peeked = false;
-        self.over = true;
-        self.failed = true;
-        fault
-    }
-
-    /// Ends the session with the fault of a stop, which the state keeps. Where nobody takes the fault, this keeps it off
-    /// the stack of the caller.
+    /// Ends the session with the fault of a stop. `fault` tells it then: a fault that this returned would have room on the
+    /// caller's stack, which is cleared at each call.
     #[cold]
     #[inline(never)]
     pub(crate) fn close(&mut self, stop: stop_t)
         ensures { (fault : yaml_fault_t) × (fault_of fault ≡ fault_at stop self.old.state.fault)
             × (self.new ≡ ended_by self.old fault) }
     {
-        let _ = self.end(stop);
+        let fault = fault_at(stop, &self.state.fault);
+        self.state.fault = Some(fault);
+        self.peeked = false;
+        self.over = true;
+        self.failed = true;
     }
 }
 

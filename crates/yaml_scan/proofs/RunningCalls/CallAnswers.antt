@@ -9,7 +9,7 @@ use Rattle.yaml_scan.specs.Course.{ended, Input, Course, course}
 use Rattle.yaml_scan.specs.inside.Scanner.{Scanner}
 use Rattle.yaml_scan.specs.Token.{yaml_token_t, empty, type_of}
 use Rattle.yaml_scan.specs.TokenTypes.{is_last_type}
-use Rattle.yaml_scan.specs.Laid.{Laid, reach}
+use Rattle.yaml_scan.specs.Laid.{Laid}
 use Rattle.yaml_scan.specs.Groups.{Token, offline, groups, group, block_ends, inserted, handed_out}
 use Rattle.yaml_scan.specs.Settled.{before}
 use Rattle.yaml_scan.specs.Groups.Token.{StreamStart, BlockEnd, BlockSequenceStart, BlockMappingStart, InsertedKey, OfLexeme}

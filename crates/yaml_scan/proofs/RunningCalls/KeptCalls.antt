@@ -1,5 +1,5 @@
 -- The calls of a scanner over an input: how they begin, and what they leave.
-use Rattle.std.proofs.Common.{◌≡◌, ℕ, ◌≤◌, ◌<◌, Bool, true, false, not, List, [], ◌∷◌, ◌++◌, length, drop, get_or, Option, Some, None, Err, refl, ap, sym, ◌∙◌, subst, arith}
+use Rattle.std.proofs.Common.{◌≡◌, ℕ, ◌≤◌, ◌<◌, Bool, true, false, List, [], ◌∷◌, ◌++◌, length, drop, get_or, Option, Some, None, Err, refl, ap, sym, ◌∙◌, subst, arith}
 use Rattle.std.specs.Prelude.{◌⊎◌, MatchResult, Result, Ok}
 use Rattle.std.specs.Option.{IfSome}
 use Rattle.yaml_scan.specs.Settled.{before}
@@ -56,14 +56,6 @@ is_kept input k w = record { is = w; seen_as = refl }
 
 pub over_is : (p : Parser) (k : scanner_t) → IsKept p k → k.session.over ≡ p.session.over
 over_is p k w = ap (λ (z : Parser). z.session.over) w.seen_as
-
-is_true : (r : Bool) → not r ≡ false → r ≡ true
-is_true true n = refl
-is_true false n = absurd (false≢true (sym n))
-
-is_false : (r : Bool) → not r ≡ true → r ≡ false
-is_false false n = refl
-is_false true n = absurd (false≢true n)
 
 unless : (b : Bool) → (b ≡ true → ⊥) → b ≡ false
 unless true f = absurd (f refl)
@@ -238,6 +230,14 @@ module _ (input : List ℕ) (k l : scanner_t) (z : KeepsText input k l) where
     text = λ o m. subst (λ (e : yaml_encoding_t). IsKeptOf (front e input) input l.text) (sym z.setting) z.text;
   }
 
+-- the fault that the session tells is the one that has ended it
+abbrev the : Fault → Option Fault → Fault
+the f None = f
+the f (Some g) = g
+
+pub same_fault : (s t : session_t) (w v : yaml_fault_t) → t ≡ ended_by s w → Some (fault_of v) ≡ fault_in t.failed t.state.fault → fault_of w ≡ fault_of v
+same_fault s t w v e told = sym (ap (the (fault_of w)) (told ∙ ap (λ (z : session_t). fault_in z.failed z.state.fault) e))
+
 -- it has stopped, after the session `last`, and the fault w ends the session
 module _ (input : List ℕ) (k l : scanner_t) (same : l.setting ≡ k.setting) (last : session_t) (w : yaml_fault_t) (f : Fault) (d : fault_of w ≡ f) (n : StopsNow (with_session (scan_of input k) last) l.session f) (s : session_t) (left : s ≡ ended_by l.session w) where
   pub stopped_left : IsScannerOf input (with_its l s)
@@ -330,6 +330,21 @@ pub part_found : (input : List ℕ) (k l : scanner_t) (part : Option Text) → K
 part_found input k l None z h p = p
 part_found input k l (Some t) z h p = (p (front k.setting input) z.text ∙ ap (λ (e : yaml_encoding_t). front e input) (sym z.setting), let n = h.settled in let b = n.stands.runs.begun in b)
 
+-- the scanner has begun
+pub part_known : (input : List ℕ) (k l : scanner_t) (part : Option Text) → KeepsText input k l → 0 < l.session.state.made
+    → IfSome part (λ text. (t : Text) → IsKeptOf t input l.text → text ≡ t) → IsPartOf input l part
+part_known input k l None z m p = p
+part_known input k l (Some t) z m p = (p (front k.setting input) z.text ∙ ap (λ (e : yaml_encoding_t). front e input) (sym z.setting), m)
+
+-- tokens went to a sink, or none did
+pub sent_begun : (input : List ℕ) (k l : scanner_t) (took : List yaml_token_t → Type 0) (none : Bool) → KeptEnds.Sends input k l took (Ok none) → 0 < l.session.state.made
+sent_begun input k l took true w = let n = (w.1 refl).0.settled in let b = n.stands.runs.begun in b
+sent_begun input k l took false w = let t = w.2 refl in t.3.begun
+
+pub part_sent : (input : List ℕ) (k l : scanner_t) (part : Option Text) (took : List yaml_token_t → Type 0) (result : Result Bool stop_t) → KeptEnds.Sends input k l took result → IsPartOf input k part → IsPartOf input l part
+part_sent input k l part took (Ok none) w p = part_as input k l part w.0.setting (λ m. sent_begun input k l took none w) p
+part_sent input k l part took (Err stop) w p = part_stopped input k l part stop w.0 p
+
 -- the session has gone on
 pub part_goes_on : (input : List ℕ) (l : scanner_t) (s : session_t) (part : Option Text) → (0 < l.session.state.made → 0 < s.state.made) → IsPartOf input l part → IsPartOf input (with_its l s) part
 part_goes_on input l s part m p = part_as input l (with_its l s) part refl m p
@@ -360,57 +375,50 @@ module _ (input : List ℕ) (k l : scanner_t) (z : KeepsText input k l) (s : ses
   gives_over took lacks (Err stop) w = (w.0, w.1, record { setting = z.setting; stops = w.2 })
 
 -- A PEEK
-module _ (p : Parser) (input : List ℕ) (k l : scanner_t) (e : p.input ≡ input) (w : IsKept p k) (r : Bool) (is : IsScannerOf input l) (over : k.session.over ≡ true → (r ≡ true) × (l ≡ k)) where
-  abbrev pub i : Scan
-  i = scan_of input k
-
-  abbrev pub j : Scan
-  j = scan_of input l
-
-  seen : parser_of i ≡ p
+module _ (p : Parser) (input : List ℕ) (k : scanner_t) (e : p.input ≡ input) (w : IsKept p k) where
+  seen : parser_of (scan_of input k) ≡ p
   seen = (over_this p input k e w).1
 
   idle : (b : Bool) → p.session.peeked ≡ b → p.session.over ≡ true → b ≡ false
   idle false d o = refl
   idle true d o = absurd (let v = w.is.sound in false≢true (sym (v.peeked (ap (λ (z : Parser). z.session.peeked) w.seen_as ∙ d)).0 ∙ over_is p k w ∙ o))
 
-  abbrev pub ShownAs : Type 0
-  ShownAs = (q : Parser) × IsKept q l × Calls decoded_input PEEK p (PEEKED (token_shown q)) q × GoesOnBy p [] q p.session.over
+  abbrev pub ShownAs : scanner_t → Type 0
+  ShownAs l = (q : Parser) × IsKept q l × Calls decoded_input PEEK p (PEEKED (token_shown q)) q × GoesOnBy p [] q p.session.over
       × (p.session.over ≡ false → q.session.peeked ≡ true) × (p.session.over ≡ true → q ≡ p)
 
-  pub peeks_kept : not r ≡ false → (r ≡ true → k.session.over ≡ false → ShowsTo i j) → ShownAs
-  peeks_kept n shows = go k.session.over refl
-    where
-      shown : r ≡ true
-      shown = is_true r n
+  -- the session is over
+  pub peeks_none : k.session.over ≡ true → ShownAs k
+  peeks_none o = let d = sym (over_is p k w) ∙ o in (
+    p,
+    w,
+    show_over p d (idle p.session.peeked refl d),
+    λ given h. subst (λ (b : Bool). Scanned p.limit p.setting p.input p (given ++ []) b) (sym h.over) (on_none p given h),
+    λ m. absurd (false≢true (sym m ∙ d)),
+    λ m. refl,
+  )
 
-      go : (b : Bool) → k.session.over ≡ b → ShownAs
-      go false o =
-          let s = shows shown o in
-          let d = sym (over_is p k w) ∙ o in
-          let on = subst (λ (z : Parser). GoesOnBy z [] (parser_of j) j.session.over) seen s.stands.on in (
-            parser_of j,
-            is_kept input l is,
-            subst (λ (z : Parser). Calls decoded_input PEEK z (PEEKED (token_shown (parser_of j))) (parser_of j)) seen s.call,
-            subst (λ (b : Bool). GoesOnBy p [] (parser_of j) b) (s.still_open ∙ sym d) on,
-            λ m. s.peeked,
-            λ m. absurd (false≢true (sym d ∙ m)),
-          )
-      go true o =
-          let d = sym (over_is p k w) ∙ o in (
-            p,
-            subst (λ (z : scanner_t). IsKept p z) (sym (over o).1) w,
-            show_over p d (idle p.session.peeked refl d),
-            λ given h. subst (λ (b : Bool). Scanned p.limit p.setting p.input p (given ++ []) b) (sym h.over) (on_none p given h),
-            λ m. absurd (false≢true (sym m ∙ d)),
-            λ m. refl,
-          )
+  module _ (l : scanner_t) (is : IsScannerOf input l) (o : k.session.over ≡ false) where
+    abbrev j : Scan
+    j = scan_of input l
 
-  pub peeks_to_fault : not r ≡ true → (r ≡ false → EndsNow i j) → (q : Parser) × IsKept q l × (fault : Fault) × (q.session.fault ≡ Some fault) × GivesToFault PEEK p q (λ tokens. tokens ≡ []) fault
-  peeks_to_fault n ends =
-      let f = is_false r n in
-      let x = ends f in
-      (parser_of j, is_kept input l is, fault_of x.fault, x.kept, subst (λ (z : Parser). GivesToFault PEEK z (parser_of j) (λ tokens. tokens ≡ []) (fault_of x.fault)) seen (peek_to_fault i j refl (unless k.session.over (λ o. false≢true (sym f ∙ (over o).0))) x))
+    -- a token is shown
+    pub peeks_kept : ShowsTo (scan_of input k) j → ShownAs l
+    peeks_kept s =
+        let d = sym (over_is p k w) ∙ o in
+        let on = subst (λ (z : Parser). GoesOnBy z [] (parser_of j) j.session.over) seen s.stands.on in (
+          parser_of j,
+          is_kept input l is,
+          subst (λ (z : Parser). Calls decoded_input PEEK z (PEEKED (token_shown (parser_of j))) (parser_of j)) seen s.call,
+          subst (λ (b : Bool). GoesOnBy p [] (parser_of j) b) (s.still_open ∙ sym d) on,
+          λ m. s.peeked,
+          λ m. absurd (false≢true (sym d ∙ m)),
+        )
+
+    -- a fault has come
+    pub peeks_to_fault : EndsNow (scan_of input k) j → (q : Parser) × IsKept q l × (fault : Fault) × (q.session.fault ≡ Some fault) × GivesToFault PEEK p q (λ tokens. tokens ≡ []) fault
+    peeks_to_fault x =
+        (parser_of j, is_kept input l is, fault_of x.fault, x.kept, subst (λ (z : Parser). GivesToFault PEEK z (parser_of j) (λ tokens. tokens ≡ []) (fault_of x.fault)) seen (peek_to_fault (scan_of input k) j refl o x))
 
 -- of a parser
 pub shows_so : (p : Parser) (input : List ℕ) (k l : scanner_t) → parser_of (scan_of input k) ≡ p → IsScannerOf input k → (r : Bool) → (k.session.over ≡ true → (r ≡ true) × (l ≡ k))

@@ -1,12 +1,14 @@
 use Rattle.std.proofs.Common.{Bool, Err, List, [], ◌∷◌, Option, None, Some, false, refl, sym, ap, ◌∙◌, subst, arith}
 use Rattle.yaml_text.specs.Decode.{front}
+use Rattle.yaml_text.specs.Fault.{Fault}
 use Rattle.yaml_text.specs.Token.{token_of}
 use Rattle.yaml_text.specs.declared.token.yaml_token_t.{yaml_token_t as code_token_t}
+use Rattle.yaml_scan.specs.All.{ReadsAll}
 use Rattle.yaml_scan.specs.Decoded.{decoded_input}
 use Rattle.yaml_scan.specs.Scanned.{GoesOnBy, ReadsNext}
 use Rattle.yaml_scan.specs.Token.{yaml_token_t, type_of}
 use Rattle.yaml_scan.specs.TokenTypes.{is_last_type}
-use Rattle.yaml_scan.specs.Session.Answer.{TOKEN}
+use Rattle.yaml_scan.specs.Session.Answer.{FAULT, TOKEN}
 use Rattle.yaml_scan.specs.Session.Call.{SCAN}
 use Rattle.yaml_scan.specs.Parser.{Parser}
 use Rattle.yaml_scan.specs.ParserCalls.{scan_result}
@@ -14,7 +16,7 @@ use Rattle.yaml_scan.specs.Headline.{Calls}
 use Rattle.yaml_scan.specs.inside.Kept.{scan_of}
 use Rattle.yaml_scan.specs.inside.Ready.{Scan, parser_of}
 use Rattle.yaml_scan.specs.inside.Sent.{IsPutOrReturned}
-use Rattle.yaml_scan.proofs.RunningCalls.KeptCalls.{at_setting, is_left, is_left_so, part_as, part_ended, part_stopped, scan_stops, stopped_left, with_its}
+use Rattle.yaml_scan.proofs.RunningCalls.KeptCalls.{at_setting, is_left, is_left_so, part_ended, part_goes_on, same_fault, scan_stops, stopped_left, with_its}
 use Rattle.yaml_scan.proofs.RunningCalls.ScansToTheEnd.{scans_fault, scans_on}
 use Rattle.yaml_scan.proofs.SessionCalls.CallWords.{scan_has_words}
 use Rattle.yaml_scan.proofs.give.yaml_scan_next_to.Goals as goal
@@ -25,6 +27,9 @@ send-requires-clause-is g c = c.parser-2.invariant.scanner
 pub send-requires-clause-still_open : goal.send-requires-clause-still_open
 send-requires-clause-still_open g c = let both = c.parser-2.view_is ∙ sym c.parser.view_is in ap (λ (p : Parser). p.session.over) both ∙ c.if-parser.false
 
+pub send-requires-clause-part : goal.send-requires-clause-part
+send-requires-clause-part g c = c.parser-2.invariant.part
+
 -- THE TOKENS OF A STEP WENT TO THE SINK
 pub invariant_of-parser-then-not-settled : goal.invariant_of-parser-then-not-settled
 invariant_of-parser-then-not-settled g c = let P = c.parser-2.inside in
@@ -33,7 +38,7 @@ invariant_of-parser-then-not-settled g c = let P = c.parser-2.inside in
     let l = c.send.new.self in
     let z = c.in-Ok-send.ensures.sends in
     let t = z.2 c.if-not-settled.true in
-    record { scanner = is_left_so x k l z.0 t.3.sound; part = part_as x k l P.part z.0.setting (λ m. t.3.begun) c.parser-2.invariant.part; empty = c.parser-2.invariant.empty }
+    record { scanner = is_left_so x k l z.0 t.3.sound; part = c.in-Ok-send.ensures.part; empty = c.parser-2.invariant.empty }
 
 pub returns-then-not-settled-clause-next : goal.returns-then-not-settled-clause-next
 returns-then-not-settled-clause-next g c = let P = c.parser-2.inside in
@@ -66,7 +71,7 @@ invariant_of-parser-2 g c = let P = c.parser-2.inside in
     let z = c.in-Ok-send.ensures.sends in
     let t = c.take-token.ensures (front k.setting x) (scan_of x k) (z.1 c.if-not-settled.false).0 in
     let s = c.take-token.new.self in
-    record { scanner = is_left x k l z.0 s t.stands.sound; part = part_as x k (with_its l s) P.part z.0.setting (λ m. t.stands.begun) c.parser-2.invariant.part; empty = c.parser-2.invariant.empty }
+    record { scanner = is_left x k l z.0 s t.stands.sound; part = part_goes_on x l s c.send.new.part (λ m. t.stands.begun) c.in-Ok-send.ensures.part; empty = c.parser-2.invariant.empty }
 
 pub put_or_return-requires-clause-words : goal.put_or_return-requires-clause-words
 put_or_return-requires-clause-words g c = let P = c.parser-2.inside in
@@ -105,8 +110,8 @@ invariant_of-parser g c = let P = c.parser-2.inside in
     let k = P.scanner in
     let l = c.send.new.self in
     let z = c.in-Err-send.ensures.sends.0 in
-    let d = c.end.ensures in
-    record { scanner = stopped_left x k l z.0 k.session c.end.result _ d.fault z.1 c.end.new.self d.left; part = part_ended x l P.part c.end.result c.end.new.self d.left (part_stopped x k l P.part _ z c.parser-2.invariant.part); empty = c.parser-2.invariant.empty }
+    let d = c.close.ensures in
+    record { scanner = stopped_left x k l z.0 k.session d.0 _ d.1 z.1 c.close.new.self d.2; part = part_ended x l c.send.new.part d.0 c.close.new.self d.2 c.in-Err-send.ensures.part; empty = c.parser-2.invariant.empty }
 
 pub returns-in-Err-send-clause-ended : goal.returns-in-Err-send-clause-ended
 returns-in-Err-send-clause-ended g c = let P = c.parser-2.inside in
@@ -114,9 +119,10 @@ returns-in-Err-send-clause-ended g c = let P = c.parser-2.inside in
     let k = P.scanner in
     let l = c.send.new.self in
     let z = c.in-Err-send.ensures.sends.0 in
-    let d = c.end.ensures in
-    let q = parser_of (scan_of x (with_its l c.end.new.self)) in
-    subst (λ (o : Parser). Calls decoded_input SCAN o (scan_result (Err c.end.result)) q) c.parser-2.view_is (scan_stops x k l z.0 k.session c.end.result _ d.fault z.1 c.end.new.self d.left)
+    let d = c.close.ensures in
+    let q = parser_of (scan_of x (with_its l c.close.new.self)) in
+    let e = same_fault l.session c.close.new.self d.0 c.in-Some.fault.now d.2 (rw c.in-Some.is at c.fault.ensures) in
+    subst (λ (f : Fault). Calls decoded_input SCAN c.args.parser.now (FAULT f) q) e (subst (λ (o : Parser). Calls decoded_input SCAN o (scan_result (Err d.0)) q) c.parser-2.view_is (scan_stops x k l z.0 k.session d.0 _ d.1 z.1 c.close.new.self d.2))
 
 pub returns-in-Err-send-clause-fault : goal.returns-in-Err-send-clause-fault
 returns-in-Err-send-clause-fault g c = λ given h. let P = c.parser-2.inside in
@@ -124,8 +130,10 @@ returns-in-Err-send-clause-fault g c = λ given h. let P = c.parser-2.inside in
     let k = P.scanner in
     let l = c.send.new.self in
     let z = c.in-Err-send.ensures.sends.0 in
-    let d = c.end.ensures in
+    let d = c.close.ensures in
     let p = c.args.parser.now in
-    let q = parser_of (scan_of x (with_its l c.end.new.self)) in
-    scans_fault p.limit p.setting p.input p given h c.end.result q
-    (subst (λ (o : Parser). Calls decoded_input SCAN o (scan_result (Err c.end.result)) q) c.parser-2.view_is (scan_stops x k l z.0 k.session c.end.result _ d.fault z.1 c.end.new.self d.left))
+    let q = parser_of (scan_of x (with_its l c.close.new.self)) in
+    let e = same_fault l.session c.close.new.self d.0 c.in-Some.fault.now d.2 (rw c.in-Some.is at c.fault.ensures) in
+    subst (λ (f : Fault). ReadsAll p.limit p.setting p.input given (Some f)) e
+    (scans_fault p.limit p.setting p.input p given h d.0 q
+    (subst (λ (o : Parser). Calls decoded_input SCAN o (scan_result (Err d.0)) q) c.parser-2.view_is (scan_stops x k l z.0 k.session d.0 _ d.1 z.1 c.close.new.self d.2)))

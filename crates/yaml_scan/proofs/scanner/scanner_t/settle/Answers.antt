@@ -1,4 +1,4 @@
-use Rattle.std.proofs.Common.{Option, Some, sym, subst, ◌∙◌, arith, ltb-true}
+use Rattle.std.proofs.Common.{◌<◌, Option, Some, sym, subst, ◌∙◌, arith, ltb-true}
 use Rattle.yaml_text.specs.Decode.{front}
 use Rattle.yaml_text.specs.Text.{Text}
 use Rattle.yaml_scan.specs.inside.Kept.{IsPartOf, scan_of}
@@ -37,10 +37,15 @@ returns-in-Some-clause-part c =
 
 -- THE NEXT TOKEN IS THERE
 pub is_settled-requires : goal.is_settled-requires
-is_settled-requires c = (front c.args.self.now.setting c.args.input.now, begun_runs c.args.input.now c.args.self.now c.requires.is c.requires.still_open (omega (arith, c.if-self-gt0.true)))
+is_settled-requires c = (front c.args.self.now.setting c.args.input.now, begun_runs c.args.input.now c.args.self.now c.requires.is c.requires.still_open (omega (arith, c.if-self-eq0.false)))
 
 pub returns-then-is_settled-clause-settles : goal.returns-then-is_settled-clause-settles
 returns-then-is_settled-clause-settles c =
     let k = c.args.self.now in
-    let l = c.is_settled.ensures (front k.setting c.args.input.now) (begun_runs c.args.input.now k c.requires.is c.requires.still_open c.if-self-gt0.true) in
-    settled_now c.args.input.now k c.requires.is c.requires.still_open c.if-self-gt0.true (ltb-true _ _ (sym l ∙ c.if-is_settled.true))
+    let m : 0 < k.session.state.made = omega (arith, c.if-self-eq0.false) in
+    let l = c.is_settled.ensures (front k.setting c.args.input.now) (begun_runs c.args.input.now k c.requires.is c.requires.still_open m) in
+    settled_now c.args.input.now k c.requires.is c.requires.still_open m (ltb-true _ _ (sym l ∙ c.if-is_settled.true))
+
+-- ITS OWN BYTES ARE KEPT
+pub returns-clause-part : goal.returns-clause-part
+returns-clause-part c = part_after c.args.input.now c.args.self.now c.settle_viewed.new.self c.args.part.now c.settle_viewed.result c.settle_viewed.ensures c.requires.part

@@ -1,5 +1,4 @@
 use Rattle.std.proofs.Common.{refl, arith}
-use Rattle.yaml_text.specs.Decode.{front}
 use Rattle.yaml_scan.specs.inside.Kept.{scan_of}
 use Rattle.yaml_scan.proofs.RunningCalls.KeptCalls.{begun_before}
 use Rattle.yaml_scan.proofs.scanner.scanner_t.start.Goals as goal
