@@ -5,8 +5,8 @@ use std::test::Fail;
 use yaml_lexeme::{
     block_reader_t, directive_reader_t, name_reader_t, plain_reader_t, quoted_reader_t,
     tag_reader_t, yaml_context_t, yaml_decider_at, yaml_gap, yaml_lexeme_at, yaml_lexeme_fault,
-    yaml_lexeme_kind, yaml_lexeme_kind_t, yaml_lexeme_t, yaml_read_character, yaml_read_marker,
-    yaml_read_stream_end, yaml_reader_t, yaml_refusal_t, yaml_spot_t,
+    yaml_lexeme_kind, yaml_lexeme_kind_t, yaml_lexeme_t, yaml_part_t, yaml_read_character,
+    yaml_read_marker, yaml_read_stream_end, yaml_reader_t, yaml_refusal_t, yaml_spot_t,
 };
 use yaml_text::{
     unnamed_yaml_token_t_data, yaml_decode, yaml_encoding_t, yaml_error_type_t, yaml_fault_t,
@@ -26,6 +26,9 @@ const OUTSIDE: yaml_context_t = yaml_context_t {
     depth: 0,
     level: None,
 };
+
+/// What is shown where a reader finds no part.
+const NO_PART: &str = "no part";
 
 fn show_mark(alloc: Global, mark: yaml_mark_t) -> Result<String, Fail> {
     let (index, line, column) = (mark.index, mark.line, mark.column);
@@ -227,6 +230,34 @@ fn read_by<R: yaml_reader_t>(
     show_read(alloc, read, R::KIND, spot.at)
 }
 
+/// The line of a part at the front of a text, which is that of the same lexeme.
+fn show_part(alloc: Global, part: &yaml_part_t) -> Result<String, Fail> {
+    let data = show_one(alloc, style_name(part.style), part.value)?;
+    let start = show_mark(alloc, FRONT)?;
+    let end = show_mark(alloc, part.end_mark)?;
+    let reach = show_mark(alloc, part.reach)?;
+    let passed = part.passed_break;
+    Ok(format!(in alloc; "{data} {start} {end} {reach} {passed}")?)
+}
+
+/// The part that a reader finds at the front of a text.
+fn part_by<R: yaml_reader_t>(
+    alloc: Global,
+    bytes: &[u8],
+    context: yaml_context_t,
+) -> Result<String, Fail> {
+    let text = decoded(alloc, bytes)?;
+    if let Some(column) = context.level
+        && column > text.bytes().len() as u64
+    {
+        return Ok(String::from_str(alloc, "no level")?);
+    }
+    match R::part(&text, FRONT, context) {
+        Some(part) => show_part(alloc, &part),
+        None => Ok(String::from_str(alloc, NO_PART)?),
+    }
+}
+
 /// The lexeme of one character at the front of a text.
 fn character_read(alloc: Global, bytes: &[u8], in_flow: bool) -> Result<String, Fail> {
     let text = decoded(alloc, bytes)?;
@@ -289,6 +320,31 @@ fn kind_read(
         }
         yaml_lexeme_kind_t::PLAIN => read_by::<plain_reader_t>(alloc, bytes, context),
         _ => character_read(alloc, bytes, context.depth > 0),
+    }
+}
+
+/// The part at the front of a text that the reader of a kind finds.
+fn part_of(
+    alloc: Global,
+    bytes: &[u8],
+    kind: yaml_lexeme_kind_t,
+    context: yaml_context_t,
+) -> Result<String, Fail> {
+    match kind {
+        yaml_lexeme_kind_t::DIRECTIVE => part_by::<directive_reader_t>(alloc, bytes, context),
+        yaml_lexeme_kind_t::ALIAS => part_by::<name_reader_t<false>>(alloc, bytes, context),
+        yaml_lexeme_kind_t::ANCHOR => part_by::<name_reader_t<true>>(alloc, bytes, context),
+        yaml_lexeme_kind_t::TAG => part_by::<tag_reader_t>(alloc, bytes, context),
+        yaml_lexeme_kind_t::LITERAL => part_by::<block_reader_t<false>>(alloc, bytes, context),
+        yaml_lexeme_kind_t::FOLDED => part_by::<block_reader_t<true>>(alloc, bytes, context),
+        yaml_lexeme_kind_t::SINGLE_QUOTED => {
+            part_by::<quoted_reader_t<true>>(alloc, bytes, context)
+        }
+        yaml_lexeme_kind_t::DOUBLE_QUOTED => {
+            part_by::<quoted_reader_t<false>>(alloc, bytes, context)
+        }
+        yaml_lexeme_kind_t::PLAIN => part_by::<plain_reader_t>(alloc, bytes, context),
+        _ => Ok(String::from_str(alloc, "no reader")?),
     }
 }
 
@@ -361,6 +417,41 @@ fn expect_read(rt: &impl Abort, alloc: Global, rows: &[(&str, way_t, &str)]) -> 
     for (text, way, want) in rows {
         let shown = shown_of(alloc, text.as_bytes(), *way)?;
         expect_shown(rt, text, shown.as_str(), want);
+    }
+    Ok(())
+}
+
+/// Asserts that a reader finds the part that is wanted at the front of a text, or none. If there is one, it is what the
+/// reader reads there.
+fn expect_part(
+    rt: &impl Abort,
+    alloc: Global,
+    place: (&str, yaml_lexeme_kind_t, yaml_context_t),
+    want: &str,
+) -> Result<(), Fail> {
+    let (text, kind, context) = place;
+    let part = part_of(alloc, text.as_bytes(), kind, context)?;
+    expect_shown(rt, text, part.as_str(), want);
+    if want != NO_PART {
+        let read = kind_read(alloc, text.as_bytes(), kind, context)?;
+        expect_shown(rt, text, read.as_str(), want);
+    }
+    Ok(())
+}
+
+/// Texts, the flow depth and the greatest open level at their front, and the part that the reader of a kind must find.
+fn expect_parts(
+    rt: &impl Abort,
+    alloc: Global,
+    kind: yaml_lexeme_kind_t,
+    rows: &[(&str, u64, Option<u64>, &str)],
+) -> Result<(), Fail> {
+    for (text, depth, level, want) in rows {
+        let context = yaml_context_t {
+            depth: *depth,
+            level: *level,
+        };
+        expect_part(rt, alloc, (text, kind, context), want)?;
     }
     Ok(())
 }
@@ -1363,6 +1454,182 @@ fn quoted_scalars_read(rt: HostRuntime) -> Result<(), Fail> {
         ),
     ];
     expect_read(&rt, rt.alloc(), &ROWS)
+}
+
+/// The part of a scalar of x, what is between, and y, in the middle of a line.
+fn expect_long_part(
+    rt: &impl Abort,
+    alloc: Global,
+    scalar: (yaml_lexeme_kind_t, &str, &str, &str),
+    sizes: (u64, u64),
+) -> Result<(), Fail> {
+    let (kind, style, quote, between) = scalar;
+    let value = joined(alloc, ("", ""), between, sizes)?;
+    let mut text = joined(alloc, (quote, quote), between, sizes)?;
+    let index = text.as_bytes().len() as u64;
+    let end = yaml_mark_t {
+        index,
+        line: 0,
+        column: index,
+    };
+    let want = scalar_line(alloc, style, value.as_str(), end)?;
+    text.push_str(": c")?;
+    expect_part(rt, alloc, (text.as_str(), kind, OUTSIDE), want.as_str())
+}
+
+/// Parts of many lengths, of one word and of two.
+fn expect_long_parts(
+    rt: &impl Abort,
+    alloc: Global,
+    scalar: (yaml_lexeme_kind_t, &str, &str),
+) -> Result<(), Fail> {
+    let (kind, style, quote) = scalar;
+    for between in ["-", " ", "#"] {
+        for front in [1u64, 14, 15, 16, 17, 31, 32, 33, 63, 64, 65, 100] {
+            for back in [1u64, 16, 100] {
+                expect_long_part(rt, alloc, (kind, style, quote, between), (front, back))?;
+            }
+        }
+    }
+    Ok(())
+}
+
+/// Plain scalars whose value stands in the text, and some where a quick look does not show where they end.
+#[test]
+fn plain_parts(rt: HostRuntime) -> Result<(), Fail> {
+    const PLAIN: yaml_lexeme_kind_t = yaml_lexeme_kind_t::PLAIN;
+    const ROWS: [(&str, u64, Option<u64>, &str); 24] = [
+        ("a: b", 0, None, "plain 61 0:0:0 1:0:1 1:0:1 false"),
+        ("a b # c", 0, None, "plain 612062 0:0:0 3:0:3 4:0:4 false"),
+        ("a", 0, None, "plain 61 0:0:0 1:0:1 1:0:1 false"),
+        ("a\n", 0, Some(0), "plain 61 0:0:0 1:0:1 2:1:0 true"),
+        ("a\n", 0, None, "no part"),
+        ("a\n b", 0, Some(1), "plain 61 0:0:0 1:0:1 3:1:1 true"),
+        ("a\n b", 0, Some(0), "no part"),
+        ("a\n b", 0, None, "no part"),
+        ("a\nb: c", 0, Some(0), "plain 61 0:0:0 1:0:1 2:1:0 true"),
+        ("a\nb: c", 0, None, "no part"),
+        ("a\n\nb", 0, Some(0), "no part"),
+        ("a \n# c", 0, None, "plain 61 0:0:0 1:0:1 3:1:0 true"),
+        ("a\r\nb", 0, Some(0), "plain 61 0:0:0 1:0:1 3:1:0 true"),
+        ("a\r\nb", 0, None, "no part"),
+        ("a\rb", 0, Some(0), "no part"),
+        ("a,", 1, None, "plain 61 0:0:0 1:0:1 1:0:1 false"),
+        ("a ]", 1, None, "plain 61 0:0:0 1:0:1 2:0:2 false"),
+        ("a\n ]", 1, None, "plain 61 0:0:0 1:0:1 3:1:1 true"),
+        ("a\nb]", 1, None, "no part"),
+        ("a:,", 1, None, "no part"),
+        ("a:,", 0, None, "plain 613a2c 0:0:0 3:0:3 3:0:3 false"),
+        ("\u{e9}: b", 0, None, "plain c3a9 0:0:0 2:0:1 2:0:1 false"),
+        (
+            "a\u{e9} b\u{20ac}: c",
+            0,
+            None,
+            "plain 61c3a92062e282ac 0:0:0 8:0:5 8:0:5 false",
+        ),
+        (
+            "a\u{a0}b # c",
+            0,
+            None,
+            "plain 61c2a062 0:0:0 4:0:3 5:0:4 false",
+        ),
+    ];
+    expect_parts(&rt, rt.alloc(), PLAIN, &ROWS)?;
+    expect_long_parts(&rt, rt.alloc(), (PLAIN, "plain", ""))
+}
+
+/// Quoted scalars whose value stands in the text, and some that have an escape, a break, or no end.
+#[test]
+fn quoted_parts(rt: HostRuntime) -> Result<(), Fail> {
+    const SINGLE: yaml_lexeme_kind_t = yaml_lexeme_kind_t::SINGLE_QUOTED;
+    const DOUBLE: yaml_lexeme_kind_t = yaml_lexeme_kind_t::DOUBLE_QUOTED;
+    const SINGLE_ROWS: [(&str, u64, Option<u64>, &str); 11] = [
+        ("'a'", 0, None, "single 61 0:0:0 3:0:3 3:0:3 false"),
+        (
+            "'a b ': c",
+            1,
+            Some(0),
+            "single 61206220 0:0:0 6:0:6 6:0:6 false",
+        ),
+        ("''", 0, None, "single - 0:0:0 2:0:2 2:0:2 false"),
+        (
+            "'a\\n\"'\n",
+            0,
+            None,
+            "single 615c6e22 0:0:0 6:0:6 6:0:6 false",
+        ),
+        ("'it''s'", 0, None, "no part"),
+        ("'a\n b'", 0, None, "no part"),
+        ("'a\u{85}b'", 0, None, "no part"),
+        ("'a", 0, None, "no part"),
+        (
+            "'\u{e9}\u{20ac}'",
+            0,
+            None,
+            "single c3a9e282ac 0:0:0 7:0:4 7:0:4 false",
+        ),
+        (
+            "'\u{a0}a'",
+            0,
+            None,
+            "single c2a061 0:0:0 5:0:4 5:0:4 false",
+        ),
+        ("'\u{a0}a''b'", 0, None, "no part"),
+    ];
+    const DOUBLE_ROWS: [(&str, u64, Option<u64>, &str); 11] = [
+        ("\"a\"", 0, None, "double 61 0:0:0 3:0:3 3:0:3 false"),
+        (
+            "\"a b \": c",
+            1,
+            Some(0),
+            "double 61206220 0:0:0 6:0:6 6:0:6 false",
+        ),
+        ("\"\"", 0, None, "double - 0:0:0 2:0:2 2:0:2 false"),
+        (
+            "\"it''s\"",
+            0,
+            None,
+            "double 6974272773 0:0:0 7:0:7 7:0:7 false",
+        ),
+        ("\"a\\n\"", 0, None, "no part"),
+        ("\"a\n b\"", 0, None, "no part"),
+        ("\"a\u{2028}b\"", 0, None, "no part"),
+        ("\"a", 0, None, "no part"),
+        (
+            "\"\u{e9}\u{20ac}\"",
+            0,
+            None,
+            "double c3a9e282ac 0:0:0 7:0:4 7:0:4 false",
+        ),
+        (
+            "\"\u{a0}a\"",
+            0,
+            None,
+            "double c2a061 0:0:0 5:0:4 5:0:4 false",
+        ),
+        ("\"\u{a0}a\\n\"", 0, None, "no part"),
+    ];
+    expect_parts(&rt, rt.alloc(), SINGLE, &SINGLE_ROWS)?;
+    expect_parts(&rt, rt.alloc(), DOUBLE, &DOUBLE_ROWS)?;
+    expect_long_parts(&rt, rt.alloc(), (SINGLE, "single", "'"))?;
+    expect_long_parts(&rt, rt.alloc(), (DOUBLE, "double", "\""))
+}
+
+/// Lexemes of the other kinds are no parts.
+#[test]
+fn no_part(rt: HostRuntime) -> Result<(), Fail> {
+    const ROWS: [(&str, yaml_lexeme_kind_t); 6] = [
+        ("|\n a\n", yaml_lexeme_kind_t::LITERAL),
+        (">\n a\n", yaml_lexeme_kind_t::FOLDED),
+        ("&a b", yaml_lexeme_kind_t::ANCHOR),
+        ("*a b", yaml_lexeme_kind_t::ALIAS),
+        ("!a b", yaml_lexeme_kind_t::TAG),
+        ("%YAML 1.1\n", yaml_lexeme_kind_t::DIRECTIVE),
+    ];
+    for (text, kind) in ROWS {
+        expect_part(&rt, rt.alloc(), (text, kind, OUTSIDE), NO_PART)?;
+    }
+    Ok(())
 }
 
 /// Literal and folded scalars, and some that have an offence.

@@ -4,9 +4,9 @@ use std::alloc::{AllocError, Global};
 use std::process::Abort;
 use std::test::Fail;
 use yaml_scan::{
-    yaml_answer_t, yaml_call_t, yaml_parser_has_token, yaml_parser_peek, yaml_parser_scan,
-    yaml_parser_skip, yaml_parser_t, yaml_run, yaml_scan_all, yaml_scan_next_to, yaml_scan_to,
-    yaml_token_sink_t,
+    yaml_answer_t, yaml_call_t, yaml_lent_scalar_t, yaml_parser_has_token, yaml_parser_peek,
+    yaml_parser_scan, yaml_parser_skip, yaml_parser_t, yaml_run, yaml_scan_all, yaml_scan_next_to,
+    yaml_scan_to, yaml_token_sink_t,
 };
 use yaml_text::{unnamed_yaml_token_t_data, yaml_encoding_t, yaml_token_t};
 
@@ -48,6 +48,11 @@ impl yaml_token_sink_t for count_t {
     ghost lacks = { λ s count texts. Unit {0} };
 
     fn put(&mut self, _token: yaml_token_t) -> Result<(), AllocError> {
+        self.tokens = self.tokens.wrapping_add(1);
+        Ok(())
+    }
+
+    fn put_scalar(&mut self, _scalar: &yaml_lent_scalar_t) -> Result<(), AllocError> {
         self.tokens = self.tokens.wrapping_add(1);
         Ok(())
     }

@@ -8,10 +8,12 @@ use std::alloc::{AllocError, Global};
 use std::process::Abort;
 use std::test::Fail;
 use yaml_scan::{
-    yaml_kept_parser_t, yaml_kept_peek, yaml_kept_scan_to, yaml_parser_peek, yaml_parser_scan,
-    yaml_parser_t, yaml_token_sink_t,
+    yaml_kept_parser_t, yaml_kept_peek, yaml_kept_scan_to, yaml_lent_scalar_t, yaml_parser_peek,
+    yaml_parser_scan, yaml_parser_t, yaml_scan_to, yaml_token_sink_t,
 };
-use yaml_text::{unnamed_yaml_token_t_data, yaml_encoding_t, yaml_token_t};
+use yaml_text::{
+    unnamed_yaml_token_t_data, yaml_encoding_t, yaml_mark_t, yaml_scalar_style_t, yaml_token_t,
+};
 
 const ANY: yaml_encoding_t = yaml_encoding_t::YAML_ANY_ENCODING;
 
@@ -40,6 +42,19 @@ fn texts_len(token: &yaml_token_t) -> u128 {
     }
 }
 
+/// Whether a token says what a scalar says that is lent, and has its marks.
+fn is_token_of(token: &yaml_token_t, scalar: &yaml_lent_scalar_t) -> bool {
+    match &token.token_data {
+        unnamed_yaml_token_t_data::SCALAR { value, style } => {
+            value.as_slice() == scalar.value
+                && *style == scalar.style
+                && token.start_mark == scalar.start_mark
+                && token.end_mark == scalar.end_mark
+        }
+        _ => false,
+    }
+}
+
 /// Has room for so many tokens and bytes, and compares each token with that of another parser of the same input.
 #[derive(Drop)]
 struct shelf_t<'a> {
@@ -60,6 +75,17 @@ impl<'a> shelf_t<'a> {
             wrong: 0,
         }
     }
+
+    /// Counts a token whose texts have so many bytes, and whether it is wrong or has no room.
+    fn count(&mut self, same: bool, texts: u128) {
+        let fits = self.room > 0 && texts <= self.texts;
+        if !same || !fits {
+            self.wrong = self.wrong.wrapping_add(1);
+        }
+        self.room = self.room.saturating_sub(1);
+        self.texts = self.texts.saturating_sub(texts);
+        self.tokens = self.tokens.wrapping_add(1);
+    }
 }
 
 impl yaml_token_sink_t for shelf_t<'_> {
@@ -76,13 +102,16 @@ impl yaml_token_sink_t for shelf_t<'_> {
             Ok(want) => want == token,
             Err(_) => false,
         };
-        let fits = self.room > 0 && texts_len(&token) <= self.texts;
-        if !same || !fits {
-            self.wrong = self.wrong.wrapping_add(1);
-        }
-        self.room = self.room.saturating_sub(1);
-        self.texts = self.texts.saturating_sub(texts_len(&token));
-        self.tokens = self.tokens.wrapping_add(1);
+        self.count(same, texts_len(&token));
+        Ok(())
+    }
+
+    fn put_scalar(&mut self, scalar: &yaml_lent_scalar_t) -> Result<(), AllocError> {
+        let same = match yaml_parser_scan(&mut self.right) {
+            Ok(want) => is_token_of(&want, scalar),
+            Err(_) => false,
+        };
+        self.count(same, scalar.value.len() as u128);
         Ok(())
     }
 
@@ -496,4 +525,136 @@ fn decoded_text_is_kept(rt: HostRuntime) -> Result<(), Fail> {
     let one_by_one = given(rt.alloc(), INPUT, 1, 0)?;
     assert_eq!(rt; (at_once, one_by_one), (8, 8));
     Ok(())
+}
+
+/// Asserts that the token of a scalar that is lent has the same value, style and marks.
+fn expect_owned(
+    rt: &(impl Abort + AllocGlobal),
+    value: &[u8],
+    style: yaml_scalar_style_t,
+) -> Result<(), Fail> {
+    let lent = yaml_lent_scalar_t {
+        value,
+        style,
+        start_mark: yaml_mark_t {
+            index: 7,
+            line: 1,
+            column: 2,
+        },
+        end_mark: yaml_mark_t {
+            index: 13,
+            line: 1,
+            column: 8,
+        },
+    };
+    let token = lent.own(rt.alloc())?;
+    assert!(rt; is_token_of(&token, &lent), "{value:?}");
+    Ok(())
+}
+
+/// A plain value, one in quotes, an empty one, and one with characters of two and three bytes.
+#[test]
+fn lent_scalar_becomes_a_token(rt: HostRuntime) -> Result<(), Fail> {
+    expect_owned(&rt, b"a", yaml_scalar_style_t::YAML_PLAIN_SCALAR_STYLE)?;
+    expect_owned(
+        &rt,
+        b"b, c",
+        yaml_scalar_style_t::YAML_SINGLE_QUOTED_SCALAR_STYLE,
+    )?;
+    expect_owned(
+        &rt,
+        b"",
+        yaml_scalar_style_t::YAML_DOUBLE_QUOTED_SCALAR_STYLE,
+    )?;
+    expect_owned(
+        &rt,
+        b"\xC3\xA9\xE2\x82\xAC",
+        yaml_scalar_style_t::YAML_PLAIN_SCALAR_STYLE,
+    )
+}
+
+/// Writes the values of scalars in a row: after each that was lent a `|`, and for any other a `.` in its place.
+#[derive(Drop)]
+struct values_t {
+    row: Vec<u8>,
+}
+
+impl yaml_token_sink_t for values_t {
+    ghost took = { λ _ _ _. Unit {0} };
+
+    ghost may_refuse = { Unit {0} };
+
+    ghost within = { λ _. Unit {0} };
+
+    ghost lacks = { λ s count texts. Unit {0} };
+
+    fn put(&mut self, token: yaml_token_t) -> Result<(), AllocError> {
+        if let unnamed_yaml_token_t_data::SCALAR { value: _, style: _ } = token.token_data {
+            self.row.push(b'.')?;
+        }
+        Ok(())
+    }
+
+    fn put_scalar(&mut self, scalar: &yaml_lent_scalar_t) -> Result<(), AllocError> {
+        self.row.extend_from_slice(scalar.value)?;
+        self.row.push(b'|')?;
+        Ok(())
+    }
+
+    fn room(&mut self, alloc: Global) -> Vec<u8> {
+        Vec::new(alloc)
+    }
+
+    fn has_room(&self, _count: u128, _texts: u128) -> bool {
+        true
+    }
+
+    ghost took_none = { λ _. tt };
+
+    ghost took_more = { λ _ _ _ _ _ _ _. tt };
+
+    ghost within_none = { λ _ _ _ _. tt };
+}
+
+/// The row of the values of an input.
+fn values_of(alloc: Global, input: &[u8]) -> Result<Vec<u8>, Fail> {
+    let mut sink = values_t {
+        row: Vec::new(alloc),
+    };
+    let fault = yaml_scan_to(alloc, input, ANY, 1024, &mut sink)?;
+    if fault.is_some() {
+        return Err("fault".into());
+    }
+    Ok(sink.row)
+}
+
+/// Asserts for each text which of its scalars are lent.
+fn expect_values(rt: &(impl Abort + AllocGlobal), rows: &[(&[u8], &[u8])]) -> Result<(), Fail> {
+    for (text, want) in rows {
+        let row = values_of(rt.alloc(), text)?;
+        assert_eq!(rt; row.as_slice(), *want, "{text:?}");
+    }
+    Ok(())
+}
+
+/// What stands in a line as it is and need not wait is lent. What goes on in a second line, has an escape, is a block
+/// scalar, or may yet become a key is not. Nor is a plain scalar where no level is open, such as the first key.
+#[test]
+fn scalars_of_a_line_are_lent(rt: HostRuntime) -> Result<(), Fail> {
+    expect_values(
+        &rt,
+        &[
+            (b"a: b # c\nd:  e f\n", b".b|d|e f|"),
+            (b"a:\n  - b\n  - 'c'\n", b".b|."),
+            (b"'a': \"b c\"\n\"d\": ''\n", b"a|b c|d||"),
+            (b"a: b\n  c\nd: \"e\n  f\"\n", b"..d|."),
+            (b"a: \"b\\n\"\nc: 'd''e'\n", b"..c|."),
+            (b"a: |\n  b\nc: d\n", b"..c|d|"),
+            (b"- [b, c]\n- d\n", b"..d|"),
+            (b"{\n  \"a\": b,\n  c: 'd'\n}\n", b".b|c|d|"),
+            (b"a: \xC3\xA9\r\nb: c\n", b".\xC3\xA9|b|c|"),
+            (b"- a:\n  b: c\n- d\n", b"a|b|c|d|"),
+            (b"a\n", b"."),
+        ],
+    )
 }

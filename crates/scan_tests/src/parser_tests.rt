@@ -5,9 +5,9 @@ use std::alloc::{AllocError, Global};
 use std::process::Abort;
 use std::test::Fail;
 use yaml_scan::{
-    yaml_parser_fault, yaml_parser_has_token, yaml_parser_mark, yaml_parser_peek,
-    yaml_parser_queued, yaml_parser_scan, yaml_parser_skip, yaml_parser_t, yaml_scan_next_to,
-    yaml_token_sink_t,
+    yaml_lent_scalar_t, yaml_parser_fault, yaml_parser_has_token, yaml_parser_mark,
+    yaml_parser_peek, yaml_parser_queued, yaml_parser_scan, yaml_parser_skip, yaml_parser_t,
+    yaml_scan_next_to, yaml_token_sink_t,
 };
 use yaml_text::{
     unnamed_yaml_token_t_data, yaml_encoding_t, yaml_error_type_t, yaml_fault_t, yaml_mark_t,
@@ -415,6 +415,12 @@ impl yaml_token_sink_t for shelf_t {
     fn put(&mut self, token: yaml_token_t) -> Result<(), AllocError> {
         self.tokens = self.tokens.wrapping_add(1);
         self.bytes = self.bytes.wrapping_add(text_len(&token));
+        Ok(())
+    }
+
+    fn put_scalar(&mut self, scalar: &yaml_lent_scalar_t) -> Result<(), AllocError> {
+        self.tokens = self.tokens.wrapping_add(1);
+        self.bytes = self.bytes.wrapping_add(scalar.value.len());
         Ok(())
     }
 

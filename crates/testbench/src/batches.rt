@@ -4,14 +4,16 @@
 //! calls.
 ghost use Rattle.std.specs.Prelude.{◌≤◌};
 
-use crate::session::{MOST_KEY_LIMIT, put_fault, put_state, put_token, start_t, wrong_words};
+use crate::session::{
+    MOST_KEY_LIMIT, put_fault, put_lent, put_state, put_token, start_t, wrong_words,
+};
 use crate::words::word_at;
 use std::alloc::{AllocError, Global};
 use std::io;
 use std::io::Write;
 use yaml_scan::{
-    unnamed_yaml_token_t_data, yaml_fault_t, yaml_parser_t, yaml_scan_next_to, yaml_scan_to,
-    yaml_token_sink_t, yaml_token_t,
+    unnamed_yaml_token_t_data, yaml_fault_t, yaml_lent_scalar_t, yaml_parser_t, yaml_scan_next_to,
+    yaml_scan_to, yaml_token_sink_t, yaml_token_t,
 };
 
 /// How many calls are made after the one that returns the stream end or a fault.
@@ -59,11 +61,11 @@ fn texts_len(data: &unnamed_yaml_token_t_data) -> u128 {
     }
 }
 
-/// What is left of a room after a token.
-fn room_after(room: room_t, token: &yaml_token_t) -> room_t {
+/// What is left of a room after a token whose texts have so many bytes.
+fn room_after(room: room_t, texts: u128) -> room_t {
     room_t {
         tokens: room.tokens.saturating_sub(1),
-        texts: room.texts.saturating_sub(texts_len(&token.token_data)),
+        texts: room.texts.saturating_sub(texts),
     }
 }
 
@@ -83,6 +85,12 @@ fn put_given(out: &mut impl Write, token: &yaml_token_t) -> io::Result<()> {
     put_token(out, token)
 }
 
+/// Writes the line of a scalar that was lent to a sink, which is that of its token.
+fn put_given_scalar(out: &mut impl Write, scalar: &yaml_lent_scalar_t) -> io::Result<()> {
+    write!(out, "GIVEN ")?;
+    put_lent(out, scalar)
+}
+
 impl<W: Write> yaml_token_sink_t for lister_t<'_, W> {
     ghost took = { λ _ _ _. Unit {0} };
 
@@ -93,9 +101,17 @@ impl<W: Write> yaml_token_sink_t for lister_t<'_, W> {
     ghost lacks = { λ s count texts. Unit {0} };
 
     fn put(&mut self, token: yaml_token_t) -> Result<(), AllocError> {
-        self.left = room_after(self.left, &token);
+        self.left = room_after(self.left, texts_len(&token.token_data));
         if self.written.is_ok() {
             self.written = put_given(self.out, &token);
+        }
+        Ok(())
+    }
+
+    fn put_scalar(&mut self, scalar: &yaml_lent_scalar_t) -> Result<(), AllocError> {
+        self.left = room_after(self.left, scalar.value.len() as u128);
+        if self.written.is_ok() {
+            self.written = put_given_scalar(self.out, scalar);
         }
         Ok(())
     }

@@ -6,10 +6,10 @@ use crate::session::{MOST_KEY_LIMIT, parser_of, start_t, wrong_words};
 use std::alloc::{AllocError, Global};
 use std::io;
 use yaml_scan::{
-    unnamed_yaml_token_t_data, yaml_answer_t, yaml_call_t, yaml_fault_t, yaml_parser_has_token,
-    yaml_parser_peek, yaml_parser_scan, yaml_parser_skip, yaml_parser_t, yaml_run, yaml_scan_all,
-    yaml_scan_all_limit, yaml_scan_next, yaml_scan_next_to, yaml_scan_to, yaml_token_sink_t,
-    yaml_token_t, yaml_token_type_t,
+    unnamed_yaml_token_t_data, yaml_answer_t, yaml_call_t, yaml_fault_t, yaml_lent_scalar_t,
+    yaml_parser_has_token, yaml_parser_peek, yaml_parser_scan, yaml_parser_skip, yaml_parser_t,
+    yaml_run, yaml_scan_all, yaml_scan_all_limit, yaml_scan_next, yaml_scan_next_to, yaml_scan_to,
+    yaml_token_sink_t, yaml_token_t, yaml_token_type_t,
 };
 
 /// For how many tokens a list of calls is, and a sink has room at a call.
@@ -39,7 +39,7 @@ impl count_t {
         self.over = matches!(token.token_data, unnamed_yaml_token_t_data::STREAM_END);
     }
 
-    /// Counts a token of which a peek told the type.
+    /// Counts a token of which only the type is told.
     fn show(&mut self, kind: yaml_token_type_t) {
         self.tokens = self.tokens.wrapping_add(1);
         self.over = matches!(kind, yaml_token_type_t::YAML_STREAM_END_TOKEN);
@@ -79,6 +79,12 @@ impl yaml_token_sink_t for tally_t {
 
     fn put(&mut self, token: yaml_token_t) -> Result<(), AllocError> {
         self.count.take(&token);
+        self.room = self.room.saturating_sub(1);
+        Ok(())
+    }
+
+    fn put_scalar(&mut self, _scalar: &yaml_lent_scalar_t) -> Result<(), AllocError> {
+        self.count.show(yaml_token_type_t::YAML_SCALAR_TOKEN);
         self.room = self.room.saturating_sub(1);
         Ok(())
     }

@@ -11,7 +11,9 @@ use std::time::Instant;
 use yaml_lexeme::{
     yaml_context_t, yaml_gap, yaml_lexeme_at, yaml_lexeme_kind, yaml_lexeme_kind_t, yaml_lexeme_t,
 };
-use yaml_scan::{yaml_parser_scan, yaml_parser_t, yaml_scan_to, yaml_token_sink_t};
+use yaml_scan::{
+    yaml_lent_scalar_t, yaml_parser_scan, yaml_parser_t, yaml_scan_to, yaml_token_sink_t,
+};
 use yaml_text::{
     unnamed_yaml_token_t_data, yaml_decode, yaml_decode_front, yaml_encoding_t, yaml_mark_t,
     yaml_text_t, yaml_token_t,
@@ -160,6 +162,12 @@ impl yaml_token_sink_t for counter_t {
 
     #[inline(always)]
     fn put(&mut self, _token: yaml_token_t) -> Result<(), AllocError> {
+        self.tokens = self.tokens.wrapping_add(1);
+        Ok(())
+    }
+
+    #[inline(always)]
+    fn put_scalar(&mut self, _scalar: &yaml_lent_scalar_t) -> Result<(), AllocError> {
         self.tokens = self.tokens.wrapping_add(1);
         Ok(())
     }

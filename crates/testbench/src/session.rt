@@ -13,10 +13,11 @@ use std::io;
 use std::io::{Read, Write};
 use yaml_scan::{
     unnamed_yaml_token_t_data, yaml_answer_t, yaml_call_t, yaml_context_t, yaml_decode,
-    yaml_encoding_t, yaml_fault_t, yaml_lexeme_at, yaml_lexeme_kind, yaml_lexeme_t, yaml_mark_t,
-    yaml_parser_fault, yaml_parser_has_token, yaml_parser_mark, yaml_parser_peek,
-    yaml_parser_queued, yaml_parser_scan, yaml_parser_skip, yaml_parser_t, yaml_run,
-    yaml_scalar_style_t, yaml_scan_all_limit, yaml_text_t, yaml_token_t, yaml_token_type_t,
+    yaml_encoding_t, yaml_fault_t, yaml_lent_scalar_t, yaml_lexeme_at, yaml_lexeme_kind,
+    yaml_lexeme_t, yaml_mark_t, yaml_parser_fault, yaml_parser_has_token, yaml_parser_mark,
+    yaml_parser_peek, yaml_parser_queued, yaml_parser_scan, yaml_parser_skip, yaml_parser_t,
+    yaml_run, yaml_scalar_style_t, yaml_scan_all_limit, yaml_text_t, yaml_token_t,
+    yaml_token_type_t,
 };
 
 /// What comes after so many bytes of an input is not read.
@@ -124,6 +125,15 @@ pub fn put_token(out: &mut impl Write, token: &yaml_token_t) -> io::Result<()> {
     let kind = token.type_();
     write!(out, "TOKEN {kind:?}")?;
     put_rest(out, token.start_mark, token.end_mark, &token.token_data)
+}
+
+/// Writes the line of the token of a scalar that is lent.
+pub fn put_lent(out: &mut impl Write, scalar: &yaml_lent_scalar_t) -> io::Result<()> {
+    let kind = yaml_token_type_t::YAML_SCALAR_TOKEN;
+    write!(out, "TOKEN {kind:?}")?;
+    put_marks(out, scalar.start_mark, scalar.end_mark)?;
+    put_scalar(out, scalar.style, scalar.value)?;
+    writeln!(out)
 }
 
 /// Writes the kind of a fault, and the offset and the value of what is wrong with an input that is no text.

@@ -2,7 +2,8 @@
 ghost use Rattle.std.specs.Prelude.{◌+◌, ◌≤◌, length};
 
 use yaml_scan::{
-    unnamed_yaml_token_t_data, yaml_fault_t, yaml_mark_t, yaml_scalar_style_t, yaml_token_t,
+    unnamed_yaml_token_t_data, yaml_fault_t, yaml_lent_scalar_t, yaml_mark_t, yaml_scalar_style_t,
+    yaml_token_t,
 };
 
 const FACTOR: u64 = 0x9E37_79B9_7F4A_7C15;
@@ -197,8 +198,8 @@ impl digest_t {
 
     /// Takes in what a token says, and its marks.
     #[inline(always)]
-    fn put_said(&mut self, said: u64, token: &yaml_token_t) {
-        let marks = mark(token.start_mark) ^ mark(token.end_mark).rotate_left(32);
+    fn put_said(&mut self, said: u64, start_mark: yaml_mark_t, end_mark: yaml_mark_t) {
+        let marks = mark(start_mark) ^ mark(end_mark).rotate_left(32);
         self.put(said ^ marks.rotate_left(17));
         self.tokens = self.tokens.wrapping_add(1);
     }
@@ -206,13 +207,24 @@ impl digest_t {
     /// Takes in a token that a sink was given.
     #[inline(always)]
     pub fn put_given(&mut self, token: &yaml_token_t) {
-        self.put_said(given(&token.token_data), token);
+        self.put_said(given(&token.token_data), token.start_mark, token.end_mark);
+    }
+
+    /// Takes in a scalar that a sink was lent, as its token.
+    #[inline(always)]
+    pub fn put_lent(&mut self, lent: &yaml_lent_scalar_t) {
+        let said = scalar(lent.value, lent.style);
+        self.put_said(said, lent.start_mark, lent.end_mark);
     }
 
     /// Takes in a token that a call returned.
     #[inline(always)]
     pub fn put_returned(&mut self, token: &yaml_token_t) {
-        self.put_said(returned(&token.token_data), token);
+        self.put_said(
+            returned(&token.token_data),
+            token.start_mark,
+            token.end_mark,
+        );
     }
 
     /// Takes in a fault.

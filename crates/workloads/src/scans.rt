@@ -6,9 +6,9 @@ use crate::digest::digest_t;
 use std::alloc::{AllocError, Global};
 use std::mem::replace;
 use yaml_scan::{
-    unnamed_yaml_token_t_data, yaml_encoding_t, yaml_parser_has_token, yaml_parser_peek,
-    yaml_parser_scan, yaml_parser_skip, yaml_parser_t, yaml_scan_next_to, yaml_scan_to,
-    yaml_token_sink_t, yaml_token_t,
+    unnamed_yaml_token_t_data, yaml_encoding_t, yaml_lent_scalar_t, yaml_parser_has_token,
+    yaml_parser_peek, yaml_parser_scan, yaml_parser_skip, yaml_parser_t, yaml_scan_next_to,
+    yaml_scan_to, yaml_token_sink_t, yaml_token_t,
 };
 
 /// How many tokens a batch has room for.
@@ -102,6 +102,13 @@ impl yaml_token_sink_t for batch_t {
     #[inline(always)]
     fn put(&mut self, token: yaml_token_t) -> Result<(), AllocError> {
         self.digest.put_given(&token);
+        self.left = self.left.wrapping_sub(1);
+        Ok(())
+    }
+
+    #[inline(always)]
+    fn put_scalar(&mut self, scalar: &yaml_lent_scalar_t) -> Result<(), AllocError> {
+        self.digest.put_lent(scalar);
         self.left = self.left.wrapping_sub(1);
         Ok(())
     }

@@ -1,7 +1,7 @@
 //! Tokens as plain records.
 ghost use Rattle.std.specs.Prelude.{◌≡◌, true};
 ghost use Rattle.yaml_text.specs.Token.{data_of, token_of};
-ghost use Rattle.yaml_text.specs.Token.TokenData.{SCALAR};
+ghost use Rattle.yaml_scan.specs.Lent.{lent_token};
 ghost use Rattle.yaml_c.specs.Record as records;
 ghost use Rattle.yaml_c.specs.Record.{record_of};
 ghost use Rattle.yaml_c.specs.Spelled.{Spelled};
@@ -10,7 +10,10 @@ ghost use Rattle.yaml_c.specs.inside.Spelled.{spelled_of};
 
 use crate::numbers::{encoding_number, style_number, type_number};
 use crate::spelled::{NOWHERE, place_of, spelled_t};
-use yaml_scan::{unnamed_yaml_token_t_data, yaml_mark_t, yaml_scalar_style_t, yaml_token_t};
+use yaml_scan::{
+    unnamed_yaml_token_t_data, yaml_lent_scalar_t, yaml_mark_t, yaml_scalar_style_t, yaml_token_t,
+    yaml_token_type_t,
+};
 
 /// A place in a text.
 #[repr(C)]
@@ -150,17 +153,11 @@ fn input_at(spelled: spelled_t, token: &yaml_token_t) -> u64
 
 /// Where a scalar's value stands in the input as it is.
 #[inline(always)]
-fn scalar_at(
-    spelled: spelled_t,
-    token: &yaml_token_t,
-    value: &[u8],
-    style: yaml_scalar_style_t,
-) -> u64
-    requires { (token_of token.now).token_data ≡ SCALAR value.now style }
-    ensures { result ≡ records.input_at (spelled_of spelled.entry) (token_of token.now) }
+fn scalar_at(spelled: spelled_t, scalar: &yaml_lent_scalar_t) -> u64
+    ensures { result ≡ records.input_at (spelled_of spelled.entry) (lent_token scalar.now) }
 {
-    match quote_len(style) {
-        Some(len) => place_of(spelled, value, token.start_mark.index, len),
+    match quote_len(scalar.style) {
+        Some(len) => place_of(spelled, scalar.value, scalar.start_mark.index, len),
         None => NOWHERE,
     }
 }
@@ -190,19 +187,24 @@ pub(crate) fn is_bare(said: &unnamed_yaml_token_t_data) -> bool
 
 /// A record of a token's type and marks, and of nothing else that it says. Texts begin at a place.
 #[inline(always)]
-fn with_marks(text_at: u64, token: &yaml_token_t) -> bogzhami_token
-    ensures { result ≡ with_marks text_at (token_of token.now) }
+fn with_marks(
+    text_at: u64,
+    kind: yaml_token_type_t,
+    start_mark: yaml_mark_t,
+    end_mark: yaml_mark_t,
+) -> bogzhami_token
+    ensures { result ≡ with_marks text_at kind start_mark end_mark }
 {
     bogzhami_token {
-        token_type: type_number(token.type_()),
+        token_type: type_number(kind),
         detail: 0,
         major: 0,
         minor: 0,
         text_at,
         first_len: 0,
         second_len: 0,
-        start_mark: mark_of(token.start_mark),
-        end_mark: mark_of(token.end_mark),
+        start_mark: mark_of(start_mark),
+        end_mark: mark_of(end_mark),
         input_at: NOWHERE,
     }
 }
@@ -213,7 +215,7 @@ pub(crate) fn bare_record(text_at: u64, token: &yaml_token_t) -> bogzhami_token
     requires { IsBare (token_of token.now).token_data }
     ensures { (s : Spelled) → result ≡ record_of s text_at (token_of token.now) }
 {
-    with_marks(text_at, token)
+    with_marks(text_at, token.type_(), token.start_mark, token.end_mark)
 }
 
 /// The record of a scalar of an input, whose text begins at a place.
@@ -221,18 +223,16 @@ pub(crate) fn bare_record(text_at: u64, token: &yaml_token_t) -> bogzhami_token
 pub(crate) fn scalar_record(
     spelled: spelled_t,
     text_at: u64,
-    token: &yaml_token_t,
-    value: &[u8],
-    style: yaml_scalar_style_t,
+    scalar: &yaml_lent_scalar_t,
 ) -> bogzhami_token
-    requires { (token_of token.now).token_data ≡ SCALAR value.now style }
-    ensures { result ≡ record_of (spelled_of spelled.entry) text_at (token_of token.now) }
+    ensures { result ≡ record_of (spelled_of spelled.entry) text_at (lent_token scalar.now) }
 {
+    let kind = yaml_token_type_t::YAML_SCALAR_TOKEN;
     bogzhami_token {
-        detail: style_number(style),
-        first_len: value.len() as u64,
-        input_at: scalar_at(spelled, token, value, style),
-        ..with_marks(text_at, token)
+        detail: style_number(scalar.style),
+        first_len: scalar.value.len() as u64,
+        input_at: scalar_at(spelled, scalar),
+        ..with_marks(text_at, kind, scalar.start_mark, scalar.end_mark)
     }
 }
 
@@ -248,6 +248,6 @@ pub(crate) fn record_of(spelled: spelled_t, text_at: u64, token: &yaml_token_t) 
         first_len: first_text(&token.token_data).len() as u64,
         second_len: second_text(&token.token_data).len() as u64,
         input_at: input_at(spelled, token),
-        ..with_marks(text_at, token)
+        ..with_marks(text_at, token.type_(), token.start_mark, token.end_mark)
     }
 }

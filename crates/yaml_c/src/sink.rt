@@ -12,7 +12,7 @@ use crate::spelled::spelled_t;
 use std::alloc::{AllocError, Global};
 use std::mem::replace;
 use yaml_scan::{
-    unnamed_yaml_token_t_data, yaml_fault_t, yaml_scalar_style_t, yaml_token_sink_t, yaml_token_t,
+    unnamed_yaml_token_t_data, yaml_fault_t, yaml_lent_scalar_t, yaml_token_sink_t, yaml_token_t,
 };
 
 /// A room for records and a room for texts, and how much was put into each, also of what it had no room for.
@@ -50,7 +50,7 @@ impl<'a> token_rooms_t<'a> {
     ghost use Rattle.yaml_c.specs.Answer.{fault_texts};
     ghost use Rattle.yaml_c.specs.Room.{covered_from};
     ghost use Rattle.yaml_text.specs.Token.{token_of};
-    ghost use Rattle.yaml_text.specs.Token.TokenData.{SCALAR};
+    ghost use Rattle.yaml_scan.specs.Lent.{lent_token};
     ghost use Rattle.yaml_c.specs.Record.{held};
     ghost use Rattle.yaml_c.specs.inside.Bare.{IsBare};
     ghost use Rattle.yaml_c.specs.inside.Sink.{IsBeside, IsPut};
@@ -90,14 +90,13 @@ impl<'a> token_rooms_t<'a> {
 
     /// Puts a scalar's record and its text.
     #[inline(always)]
-    fn put_scalar(&mut self, token: &yaml_token_t, value: &[u8], style: yaml_scalar_style_t)
-        requires { (token_of token.now).token_data ≡ SCALAR value.now style }
-        ensures { IsPut self.old (token_of token.now) self.new }
+    fn put_lent(&mut self, scalar: &yaml_lent_scalar_t)
+        ensures { IsPut self.old (lent_token scalar.now) self.new }
     {
-        let record = scalar_record(self.spelled, self.text_len, token, value, style);
+        let record = scalar_record(self.spelled, self.text_len, scalar);
         put_record(self.tokens, self.token_count, record);
-        put_bytes(self.texts, self.text_len, value);
-        self.count_token(self.text_len.saturating_add(value.len() as u64));
+        put_bytes(self.texts, self.text_len, scalar.value);
+        self.count_token(self.text_len.saturating_add(scalar.value.len() as u64));
     }
 
     /// Puts a token's record and its texts, whatever it says. It is called and not inlined, so that a scalar does not
@@ -137,7 +136,12 @@ impl<'a> token_rooms_t<'a> {
         ensures { IsPut self.old (token_of token) self.new }
     {
         if let unnamed_yaml_token_t_data::SCALAR { value, style } = &token.token_data {
-            self.put_scalar(&token, value.as_slice(), *style);
+            self.put_lent(&yaml_lent_scalar_t {
+                value: value.as_slice(),
+                style: *style,
+                start_mark: token.start_mark,
+                end_mark: token.end_mark,
+            });
             self.spend(token);
             return;
         }
@@ -185,6 +189,12 @@ impl yaml_token_sink_t for token_rooms_t<'_> {
     #[inline(always)]
     fn put(&mut self, token: yaml_token_t) -> Result<(), AllocError> {
         self.put_token(token);
+        Ok(())
+    }
+
+    #[inline(always)]
+    fn put_scalar(&mut self, scalar: &yaml_lent_scalar_t) -> Result<(), AllocError> {
+        self.put_lent(scalar);
         Ok(())
     }
 

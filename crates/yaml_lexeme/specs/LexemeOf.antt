@@ -1,6 +1,9 @@
 -- What the code reads, as the definitions see it.
+use Rattle.yaml_text.specs.declared.types.yaml_mark_t.{yaml_mark_t}
 use Rattle.yaml_text.specs.Token.{data_of}
+use Rattle.yaml_text.specs.Token.TokenData.{SCALAR}
 use Rattle.yaml_lexeme.specs.declared.lexeme.yaml_lexeme_t.{yaml_lexeme_t}
+use Rattle.yaml_lexeme.specs.declared.lexeme.yaml_part_t.{yaml_part_t}
 use Rattle.yaml_lexeme.specs.declared.plain.scalar_t.{scalar_t}
 use Rattle.yaml_lexeme.specs.declared.directive.directive_t.{directive_t}
 use Rattle.yaml_lexeme.specs.Lexeme.{Lexeme, Scalar, Directive}
@@ -13,6 +16,16 @@ lexeme_of l = record {
   end_mark = l.end_mark;
   reach = l.reach;
   passed_break = l.passed_break;
+}
+
+-- A scalar whose value is a part of the text, from its start on.
+abbrev pub part_from : yaml_mark_t → yaml_part_t → Lexeme
+part_from start p = record {
+  token_data = SCALAR p.value.now p.style;
+  start_mark = start;
+  end_mark = p.end_mark;
+  reach = p.reach;
+  passed_break = p.passed_break;
 }
 
 -- A scalar of the code.

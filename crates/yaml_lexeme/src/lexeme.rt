@@ -28,6 +28,21 @@ pub struct yaml_lexeme_t {
     pub passed_break: bool,
 }
 
+/// A scalar that stands in the text as it is: its value is a part of the text, and no list. Where it starts is not said.
+#[derive(Clone, Copy)]
+pub struct yaml_part_t<'a> {
+    /// Its value, in UTF-8.
+    pub value: &'a [u8],
+    /// How it is written.
+    pub style: yaml_scalar_style_t,
+    /// The mark after its token's last character, as of a [`yaml_lexeme_t`].
+    pub end_mark: yaml_mark_t,
+    /// The mark up to which was read, as of a [`yaml_lexeme_t`].
+    pub reach: yaml_mark_t,
+    /// For a plain scalar, whether a break is between `end_mark` and `reach`; false for every other kind.
+    pub passed_break: bool,
+}
+
 /// The lexeme between two marks, the second of which is also its reach.
 pub(crate) fn whole_of(
     says: unnamed_yaml_token_t_data,

@@ -30,7 +30,7 @@ pub use lex::{
     yaml_context_t, yaml_lexeme_at, yaml_lexeme_fault, yaml_marker_kind, yaml_read_character,
     yaml_read_marker, yaml_read_stream_end, yaml_spot_t,
 };
-pub use lexeme::yaml_lexeme_t;
+pub use lexeme::{yaml_lexeme_t, yaml_part_t};
 pub use problem::{yaml_problem_t, yaml_refusal_t};
 pub use reader::{
     block_reader_t, directive_reader_t, name_reader_t, plain_reader_t, quoted_reader_t,

@@ -10,7 +10,7 @@ ghost use Rattle.yaml_lexeme.specs.Plain as spec;
 ghost use Rattle.yaml_lexeme.specs.inside.Words as words;
 ghost use Rattle.yaml_lexeme.specs.inside.Gives.{Gives, Appends};
 ghost use Rattle.yaml_lexeme.specs.LexemeOf.{scalar_of};
-ghost use Rattle.yaml_lexeme.specs.Reading.{with_front, over};
+ghost use Rattle.yaml_lexeme.specs.Reading.{found, with_front, over};
 ghost use Rattle.yaml_lexeme.specs.inside.Words.{links, words, plain_of, Ends, Goes, LeadsTo, Leaves, LeavesMore};
 
 use crate::classes::{ends, is_break, is_white};
@@ -261,8 +261,9 @@ fn ends_anywhere(cursor: &cursor_t) -> bool
 
 /// Takes the separator that is here, if a second look shows that the scalar is over before it. Then it is blanks, and
 /// after them nothing, or a line feed and spaces. It does not begin with a line feed, at which `ends_at_once` looks.
-/// Returns whether a break is in it.
-fn ends_soon(cursor: &mut cursor_t, in_flow: bool, least: u64) -> Option<bool>
+/// Returns whether a break is in it. There is one for the parts of a text and one for lists (`PART`), each with one
+/// caller.
+fn ends_soon<const PART: bool>(cursor: &mut cursor_t, in_flow: bool, least: u64) -> Option<bool>
     ensures over { IfSome result (λ b. spec.link in_flow least cursor.old ≡ over) }
     ensures end { IfSome result (λ b. cursor.new ≡ after_run sets.is_white cursor.old) }
     ensures broken { IfSome result (λ b. b ≡ list_any classes.is_break (run sets.is_white cursor.old)) }
@@ -293,7 +294,7 @@ fn take_links(
         → Gives (λ done. scalar_of scalar.new) result cursor.new (spec.plain in_flow least p) }
 {
     scalar.end = cursor.mark();
-    if let Some(passed_break) = ends_soon(cursor, in_flow, least) {
+    if let Some(passed_break) = ends_soon::<false>(cursor, in_flow, least) {
         scalar.passed_break = passed_break;
         return Ok(());
     }
@@ -359,4 +360,58 @@ pub(crate) fn take_plain(
         }),
         None => take_lines(cursor, in_flow, least, value),
     }
+}
+
+/// Takes the separator that is here, if a second look shows that the scalar is over before it, as `ends_soon` does. The
+/// cursor is a copy, so that the caller's stays in registers.
+#[inline(never)]
+fn ends_apart(cursor: &mut cursor_t, in_flow: bool, least: u64) -> Option<bool>
+    ensures over { IfSome result (λ b. spec.link in_flow least cursor.old ≡ over) }
+    ensures end { IfSome result (λ b. cursor.new ≡ after_run sets.is_white cursor.old) }
+    ensures broken { IfSome result (λ b. b ≡ list_any classes.is_break (run sets.is_white cursor.old)) }
+    ensures stays { result ≡ None → cursor.new ≡ cursor.old }
+{
+    ends_soon::<true>(cursor, in_flow, least)
+}
+
+/// Takes the separator that is here, if a look or two show that the scalar is over before it. Returns whether a break is
+/// in it.
+#[inline(always)]
+fn ends_here(cursor: &mut cursor_t, in_flow: bool, least: u64) -> Option<bool>
+    ensures over { IfSome result (λ b. spec.link in_flow least cursor.old ≡ over) }
+    ensures end { IfSome result (λ b. cursor.new ≡ after_run sets.is_white cursor.old) }
+    ensures broken { IfSome result (λ b. b ≡ list_any classes.is_break (run sets.is_white cursor.old)) }
+{
+    if let Some(passed_break) = ends_at_once(cursor, in_flow, least) {
+        return Some(passed_break);
+    }
+    if check_at!(cursor, '\n', 0) {
+        return None;
+    }
+    let mut here = cursor.again();
+    let passed_break = ends_apart(&mut here, in_flow, least);
+    *cursor = here;
+    passed_break
+}
+
+/// Takes a plain scalar whose value stands in the text as it is, if a look or two show that it ends in its first line.
+/// Returns its value, the mark after that, and whether a break comes after it. `least` is the least column of a line
+/// that goes on.
+#[inline(always)]
+pub(crate) fn take_plain_part<'a>(
+    cursor: &mut cursor_t<'a>,
+    in_flow: bool,
+    least: u64,
+) -> Option<(&'a [u8], yaml_mark_t, bool)>
+    ensures value { IfSome result (λ r. spec.plain in_flow least cursor.old
+        ≡ found (record { value = r.0.now; end = r.1; passed_break = r.2 }) cursor.new) }
+    ensures within { IfSome result (λ r. length r.0.now ≤ length (utf8 cursor.old.rest)) }
+{
+    let value = line_words(cursor, in_flow, least);
+    if is_bad_colon(cursor, in_flow) {
+        return None;
+    }
+    let end = cursor.mark();
+    let passed_break = ends_here(cursor, in_flow, least)?;
+    Some((value, end, passed_break))
 }

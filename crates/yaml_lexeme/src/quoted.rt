@@ -1,6 +1,6 @@
 //! Quoted scalars.
 ghost use Rattle.std.specs.Prelude.{ℕ, Bool, ◌≡◌, ◌+◌, ◌<◌, ◌≤◌, ◌++◌, false, true, List, Ok, Err, if◌then◌else◌};
-ghost use Rattle.std.specs.Prelude.{IfOk, length};
+ghost use Rattle.std.specs.Prelude.{IfOk, IfSome, length};
 ghost use Rattle.std.specs.Prelude.{OnOk, take};
 ghost use Rattle.yaml_text.specs.Chars.{utf8};
 ghost use Rattle.yaml_text.specs.Classes.{is_break};
@@ -13,7 +13,7 @@ ghost use Rattle.yaml_lexeme.specs.inside.Runs as runs;
 ghost use Rattle.yaml_lexeme.specs.inside.Gives.{Gives, Takes};
 ghost use Rattle.yaml_lexeme.specs.inside.Words.{GoesOn, IsInLine, IsPiece, LeadsOn, LeavesMore};
 ghost use Rattle.yaml_lexeme.specs.Place.{Place, first, peek, skip};
-ghost use Rattle.yaml_lexeme.specs.Reading.{many, over, with_front};
+ghost use Rattle.yaml_lexeme.specs.Reading.{found, many, over, with_front};
 ghost use Rattle.yaml_lexeme.specs.Quoted.{spelled};
 ghost use Rattle.yaml_lexeme.specs.Escape.{backslash};
 
@@ -491,4 +491,63 @@ pub(crate) fn take_quoted(
     } else {
         take_after(room, cursor, single, left, piece)
     }
+}
+
+/// Takes the closing quote, if it comes after the piece of a quoted scalar's first line. Returns whether it was there.
+#[inline(always)]
+fn take_close(cursor: &mut cursor_t, single: bool, piece: &[u8]) -> bool
+    ensures value { (p : Place) → result ≡ true → IsPiece single (skip 1 p) cursor.old piece.now
+        → spec.quoted single p ≡ found piece.now cursor.new }
+    ensures here { result ≡ true → first cursor.old ≡ spec.quote single }
+    ensures stays { result ≡ false → cursor.new ≡ cursor.old }
+{
+    if !closes(cursor, single) {
+        return false;
+    }
+    cursor.pass();
+    true
+}
+
+/// Takes what is left of a quoted scalar in whose first line a character needs a closer look, if it ends in that line
+/// and its value stands there as it is. `left` is what follows the opening quote.
+#[inline(never)]
+fn take_far_part<'a>(cursor: &mut cursor_t<'a>, single: bool, left: &'a [u8]) -> Option<&'a [u8]>
+    requires { (p : Place) × IsInLine single (skip 1 p) cursor.old left.now }
+    ensures value { (p : Place) → IsInLine single (skip 1 p) cursor.old left.now
+        → IfSome result (λ piece. spec.quoted single p ≡ found piece.now cursor.new) }
+    ensures within { IfSome result (λ piece. length piece.now ≤ length left.now) }
+{
+    cursor.skip_run(line_class(single));
+    let piece = cursor.between(left);
+    if take_close(cursor, single, piece) {
+        Some(piece)
+    } else {
+        None
+    }
+}
+
+/// Takes a quoted scalar, from its opening quote on, if it ends in its first line and its value stands in the text as it
+/// is. Returns the value.
+#[inline(always)]
+pub(crate) fn take_quoted_part<'a>(cursor: &mut cursor_t<'a>, single: bool) -> Option<&'a [u8]>
+    ensures value { IfSome result (λ value. spec.quoted single cursor.old ≡ found value.now cursor.new) }
+    ensures within { IfSome result (λ value. length value.now ≤ length (utf8 cursor.old.rest)) }
+{
+    open(cursor, single);
+    let left = cursor.left();
+    let class = line_class(single);
+    let piece = cursor.near_run(class);
+    if take_close(cursor, single, piece) {
+        return Some(piece);
+    }
+    if cursor.begins_with(b'\n') {
+        return None;
+    }
+    if !cursor.goes_on(class) {
+        return None;
+    }
+    let mut here = cursor.again();
+    let piece = take_far_part(&mut here, single, left)?;
+    *cursor = here;
+    Some(piece)
 }

@@ -1,5 +1,5 @@
 //! The readers: one for each kind of lexeme that may be refused.
-ghost use Rattle.std.specs.Prelude.{ℕ, Bool, ◌≡◌, ◌<◌, ◌≤◌, ◌^◌, IsOk, IfSome, length, true, false};
+ghost use Rattle.std.specs.Prelude.{ℕ, Bool, ◌≡◌, ◌<◌, ◌≤◌, ◌^◌, IsOk, IfSome, Ok, length, true, false};
 ghost use Rattle.yaml_text.specs.Chars.{utf8};
 ghost use Rattle.yaml_text.specs.Token.{data_of};
 ghost use Rattle.yaml_lexeme.specs.Lex as spec;
@@ -7,7 +7,7 @@ ghost use Rattle.yaml_lexeme.specs.KindSets as sets;
 ghost use Rattle.yaml_lexeme.specs.Place.{place_at};
 ghost use Rattle.yaml_lexeme.specs.Counted.{IsMarkOf};
 ghost use Rattle.yaml_lexeme.specs.Answers.{ReadsAs, lexeme_at};
-ghost use Rattle.yaml_lexeme.specs.LexemeOf.{lexeme_of};
+ghost use Rattle.yaml_lexeme.specs.LexemeOf.{lexeme_of, part_from};
 ghost use Rattle.yaml_lexeme.specs.declared.kind.yaml_lexeme_kind_t.{yaml_lexeme_kind_t as Kind};
 ghost use Rattle.yaml_lexeme.specs.declared.kind.yaml_lexeme_kind_t.TheVariants.{DIRECTIVE, PLAIN, TAG};
 
@@ -15,15 +15,15 @@ use crate::block::{above, take_block};
 use crate::directive::take_directive;
 use crate::kind::yaml_lexeme_kind_t;
 use crate::lex::{yaml_context_t, yaml_spot_t};
-use crate::lexeme::{directive_to, scalar_to, whole_of, yaml_lexeme_t};
+use crate::lexeme::{directive_to, scalar_to, whole_of, yaml_lexeme_t, yaml_part_t};
 use crate::name::take_name;
 use crate::place::cursor_t;
-use crate::plain::take_plain;
+use crate::plain::{take_plain, take_plain_part};
 use crate::problem::{refused, yaml_refusal_t};
-use crate::quoted::take_quoted;
+use crate::quoted::{take_quoted, take_quoted_part};
 use crate::tag::take_tag;
 use std::alloc::Global;
-use yaml_text::{unnamed_yaml_token_t_data, yaml_scalar_style_t};
+use yaml_text::{unnamed_yaml_token_t_data, yaml_mark_t, yaml_scalar_style_t, yaml_text_t};
 
 /// Reads lexemes of one kind.
 pub trait yaml_reader_t {
@@ -55,6 +55,22 @@ pub trait yaml_reader_t {
             (lexeme_at KIND context (place_at spot.old.text.now.chars n)) }
         ensures text { spot.new.text ≡ spot.old.text }
         ensures stays { IsOk result → spot.new.at ≡ spot.old.at };
+
+    /// The lexeme at a mark, if it is a scalar in one line that stands in the text as it is, and a quick look shows where
+    /// it ends. No memory is taken. Of any other lexeme, and if it is refused, nothing is returned.
+    ///
+    /// The place and the context are as for [`yaml_lexeme_at`](crate::yaml_lexeme_at). If there is a part, it has what
+    /// `read` returns there, where memory is found.
+    fn part<'a>(
+        text: &'a yaml_text_t<'_>,
+        at: yaml_mark_t,
+        context: yaml_context_t,
+    ) -> Option<yaml_part_t<'a>>
+        requires place { (n : ℕ) × IsMarkOf text.now.chars at n }
+        requires level { by_level ≡ true → IfSome context.level (λ l. l ≤ length (utf8 text.now.chars)) }
+        ensures value { IfSome result (λ part. (n : ℕ) → IsMarkOf text.now.chars at n
+            → lexeme_at KIND context (place_at text.now.chars n) ≡ Ok (part_from at part)) }
+        ensures size { IfSome result (λ part. length part.value.now < 2 ^ 63) };
 }
 
 /// The same refusal. The spot is set to the mark of the offence, which is where the cursor is.
@@ -117,6 +133,28 @@ impl yaml_reader_t for plain_reader_t {
             Err(refusal) => Err(refused_here(refusal, &cursor, spot)),
         }
     }
+
+    #[tactic(auto, unfolding(crate::specs::Lex::lex))]
+    #[inline(always)]
+    fn part<'a>(
+        text: &'a yaml_text_t<'_>,
+        at: yaml_mark_t,
+        context: yaml_context_t,
+    ) -> Option<yaml_part_t<'a>> {
+        let mut cursor = cursor_t::at(text, at);
+        let (value, end_mark, passed_break) = take_plain_part(
+            &mut cursor,
+            in_flow(context),
+            least(context),
+        )?;
+        Some(yaml_part_t {
+            value,
+            style: yaml_scalar_style_t::YAML_PLAIN_SCALAR_STYLE,
+            end_mark,
+            reach: cursor.mark(),
+            passed_break,
+        })
+    }
 }
 
 /// What a quoted scalar says.
@@ -175,6 +213,24 @@ impl<const SINGLE: bool> yaml_reader_t for quoted_reader_t<SINGLE> {
             Err(refusal) => Err(refused_here(refusal, &cursor, spot)),
         }
     }
+
+    #[tactic(auto, unfolding(crate::specs::Lex::lex))]
+    #[inline(always)]
+    fn part<'a>(
+        text: &'a yaml_text_t<'_>,
+        at: yaml_mark_t,
+        _context: yaml_context_t,
+    ) -> Option<yaml_part_t<'a>> {
+        let mut cursor = cursor_t::at(text, at);
+        let value = take_quoted_part(&mut cursor, SINGLE)?;
+        Some(yaml_part_t {
+            value,
+            style: quoted_style(SINGLE),
+            end_mark: cursor.mark(),
+            reach: cursor.mark(),
+            passed_break: false,
+        })
+    }
 }
 
 fn block_style(folded: bool) -> yaml_scalar_style_t
@@ -222,6 +278,15 @@ impl<const FOLDED: bool> yaml_reader_t for block_reader_t<FOLDED> {
             Ok(scalar) => Ok(scalar_to(block_style(FOLDED), spot.at, scalar, cursor.mark())),
             Err(refusal) => Err(refused_here(refusal, &cursor, spot)),
         }
+    }
+
+    #[inline(always)]
+    fn part<'a>(
+        _text: &'a yaml_text_t<'_>,
+        _at: yaml_mark_t,
+        _context: yaml_context_t,
+    ) -> Option<yaml_part_t<'a>> {
+        None
     }
 }
 
@@ -271,6 +336,15 @@ impl<const ANCHOR: bool> yaml_reader_t for name_reader_t<ANCHOR> {
             Err(refusal) => Err(refused_here(refusal, &cursor, spot)),
         }
     }
+
+    #[inline(always)]
+    fn part<'a>(
+        _text: &'a yaml_text_t<'_>,
+        _at: yaml_mark_t,
+        _context: yaml_context_t,
+    ) -> Option<yaml_part_t<'a>> {
+        None
+    }
 }
 
 /// Reads tags.
@@ -297,6 +371,15 @@ impl yaml_reader_t for tag_reader_t {
             Err(refusal) => Err(refused_here(refusal, &cursor, spot)),
         }
     }
+
+    #[inline(always)]
+    fn part<'a>(
+        _text: &'a yaml_text_t<'_>,
+        _at: yaml_mark_t,
+        _context: yaml_context_t,
+    ) -> Option<yaml_part_t<'a>> {
+        None
+    }
 }
 
 /// Reads directives.
@@ -322,5 +405,14 @@ impl yaml_reader_t for directive_reader_t {
             Ok(directive) => Ok(directive_to(spot.at, directive, cursor.mark())),
             Err(refusal) => Err(refused_here(refusal, &cursor, spot)),
         }
+    }
+
+    #[inline(always)]
+    fn part<'a>(
+        _text: &'a yaml_text_t<'_>,
+        _at: yaml_mark_t,
+        _context: yaml_context_t,
+    ) -> Option<yaml_part_t<'a>> {
+        None
     }
 }

@@ -9,12 +9,13 @@ ghost use Rattle.yaml_listing.specs.Listing.{is_fault};
 ghost use Rattle.yaml_listing.specs.Run.{Lists, ListsDecode, ListsScan, AnswersCalls, ListsCalls, call_for, calls_in};
 
 use crate::args::yaml_command_t;
-use crate::line::put_line;
+use crate::line::{put_line, put_scalar_line};
 use crate::listing::{list_answers, list_fault, list_text};
 use crate::mark::kept_mark_t;
 use std::alloc::{AllocError, Global};
 use yaml_scan::{
-    yaml_answer_t, yaml_call_t, yaml_parser_t, yaml_run, yaml_scan_to, yaml_token_sink_t,
+    yaml_answer_t, yaml_call_t, yaml_lent_scalar_t, yaml_parser_t, yaml_run, yaml_scan_to,
+    yaml_token_sink_t,
 };
 use yaml_text::{unnamed_yaml_token_t_data, yaml_decode, yaml_encoding_t, yaml_token_t};
 
@@ -83,6 +84,11 @@ impl yaml_token_sink_t for token_lines_t {
 
     fn put(&mut self, token: yaml_token_t) -> Result<(), AllocError> {
         self.len = put_line(&mut self.bytes, self.len, &mut self.kept, &token)?;
+        Ok(())
+    }
+
+    fn put_scalar(&mut self, scalar: &yaml_lent_scalar_t) -> Result<(), AllocError> {
+        self.len = put_scalar_line(&mut self.bytes, self.len, &mut self.kept, scalar)?;
         Ok(())
     }
 

@@ -5,6 +5,7 @@ ghost use Rattle.std.specs.Fmt.{signed_decimal};
 ghost use Rattle.yaml_text.specs.declared.types.yaml_encoding_t.TheVariants.{YAML_ANY_ENCODING};
 ghost use Rattle.yaml_text.specs.declared.types.yaml_scalar_style_t.TheVariants.{YAML_ANY_SCALAR_STYLE};
 ghost use Rattle.yaml_text.specs.Token.{data_of, token_of};
+ghost use Rattle.yaml_scan.specs.Lent.{lent_token};
 ghost use Rattle.yaml_scan.specs.Words.{HasWords};
 ghost use Rattle.yaml_listing.specs.inside.Put.{more_parts_text};
 ghost use Rattle.yaml_listing.specs.Listing.{bytes_text, encoding_word, type_name, style_word};
@@ -13,6 +14,7 @@ ghost use Rattle.yaml_listing.specs.Listing.{parts_text, head_parts, data_parts,
 use crate::mark::{ROW, kept_mark_t, set_row};
 use crate::put::{set_bytes, set_signed};
 use std::alloc::AllocError;
+use yaml_scan::yaml_lent_scalar_t;
 use yaml_text::{
     unnamed_yaml_token_t_data, yaml_encoding_t, yaml_mark_t, yaml_scalar_style_t, yaml_token_t,
     yaml_token_type_t,
@@ -239,6 +241,26 @@ fn put_names(
     Ok(set_text(bytes, end, second))
 }
 
+/// Writes a style and a text at a place, with a space before each, and returns where they end.
+#[inline(always)]
+fn put_scalar(
+    bytes: &mut Vec<u8>,
+    at: usize,
+    value: &[u8],
+    style: yaml_scalar_style_t,
+) -> Result<usize, AllocError>
+    requires words { style ≢ YAML_ANY_SCALAR_STYLE }
+    requires place { at ≤ vec_len bytes.old }
+    ensures text { IfOk result (λ end. take end bytes.new.items
+        ≡ take at bytes.old.items ++ more_parts_text (style_word style ∷ bytes_text value.now ∷ [])) }
+    ensures room { IfOk result (λ end. end + 1 ≤ vec_len bytes.new) }
+    ensures place { at ≤ vec_len bytes.new }
+    ensures err { OnErr result (take at bytes.new.items ≡ take at bytes.old.items) }
+{
+    make_room(bytes, at, value.len())?;
+    Ok(set_scalar(bytes, at, value, style))
+}
+
 /// Writes what a token says at a place, with a space before each part, and returns where it ends.
 #[inline(always)]
 fn put_data(
@@ -256,8 +278,7 @@ fn put_data(
 {
     match said {
         unnamed_yaml_token_t_data::SCALAR { value, style } => {
-            make_room(bytes, at, value.len())?;
-            Ok(set_scalar(bytes, at, value.as_slice(), *style))
+            put_scalar(bytes, at, value.as_slice(), *style)
         }
         unnamed_yaml_token_t_data::STREAM_START { encoding } => {
             Ok(set_encoding(bytes, at, *encoding))
@@ -305,6 +326,34 @@ pub fn put_line(
     };
     let head_end = set_head(bytes, at, kept, head);
     let end = put_data(bytes, head_end, &token.token_data)?;
+    bytes[end] = b'\n';
+    Ok(end + 1)
+}
+
+/// Writes the line of a scalar that is lent, as [`put_line`] writes that of its token.
+#[inline(always)]
+pub fn put_scalar_line(
+    bytes: &mut Vec<u8>,
+    at: usize,
+    kept: &mut kept_mark_t,
+    scalar: &yaml_lent_scalar_t,
+) -> Result<usize, AllocError>
+    requires words { HasWords (lent_token scalar.now).token_data }
+    requires place { at ≤ vec_len bytes.old }
+    ensures line { IfOk result (λ end. take end bytes.new.items
+        ≡ take at bytes.old.items ++ token_line (lent_token scalar.now)) }
+    ensures within { IfOk result (λ end. end ≤ vec_len bytes.new) }
+    ensures err { OnErr result (take at bytes.new.items ≡ take at bytes.old.items) }
+    ensures place { at ≤ vec_len bytes.new }
+{
+    make_room(bytes, at, 0)?;
+    let head = head_t {
+        kind: yaml_token_type_t::YAML_SCALAR_TOKEN,
+        start_mark: scalar.start_mark,
+        end_mark: scalar.end_mark,
+    };
+    let head_end = set_head(bytes, at, kept, head);
+    let end = put_scalar(bytes, head_end, scalar.value, scalar.style)?;
     bytes[end] = b'\n';
     Ok(end + 1)
 }

@@ -15,6 +15,8 @@ pub mod HeadIsNext
 pub mod WholeQueue
 -- Where no token is queued, there is no candidate.
 pub mod NoCandidates
+-- No candidate is awaited after a lexeme that is none, where there was none before it.
+pub mod NoneAwaited
 -- How many steps are queued can be counted in the queue, since each has one token of its own lexeme.
 pub mod StepsInQueue
 -- How many steps wait, as more steps are made and tokens are taken.

@@ -29,3 +29,5 @@ pub mod StepMoves
 pub mod StepHanded
 -- A lexeme that has to wait and what comes right after it are laid at once as they are laid one after the other.
 pub mod WaitingLaid
+-- A scalar that stands in the text is laid as the token that it is.
+pub mod LentTokens

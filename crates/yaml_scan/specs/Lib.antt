@@ -6,6 +6,7 @@ pub mod Depth
 pub mod Allowed
 pub mod Keys
 pub mod KeyLimits
+pub mod Lent
 pub mod Levels
 pub mod Falling
 pub mod Begins

@@ -30,6 +30,7 @@ ghost use Rattle.yaml_scan.specs.ParserCalls.{IsRefusedAtStart};
 
 use crate::groups::{group_t, lead_t, lead_token};
 use crate::keys::KEY_LIMIT;
+use crate::lent::yaml_lent_scalar_t;
 use crate::parser::{yaml_parser_t, yaml_scan_next};
 use crate::scanner::begin;
 use crate::session::is_last;
@@ -408,6 +409,12 @@ impl yaml_token_sink_t for token_list_t {
     ghost lacks = { λ s count texts. Unit {0} };
 
     fn put(&mut self, token: yaml_token_t) -> Result<(), AllocError> {
+        self.tokens.push(token)?;
+        Ok(())
+    }
+
+    fn put_scalar(&mut self, scalar: &yaml_lent_scalar_t) -> Result<(), AllocError> {
+        let token = scalar.own(*self.tokens.allocator())?;
         self.tokens.push(token)?;
         Ok(())
     }

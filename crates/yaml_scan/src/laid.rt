@@ -1,5 +1,5 @@
 //! What a step lays: of a lexeme that was read it makes a group, which is handed on, unless the step has to stop.
-ghost use Rattle.std.specs.Prelude.{◌≡◌, ◌<◌, ◌++◌, ◌∷◌, List, [], false, length, ℕ, ◌≤◌, ◌||◌, not, MatchResult, OnOk};
+ghost use Rattle.std.specs.Prelude.{◌≡◌, ◌<◌, ◌++◌, ◌∷◌, List, [], None, false, true, length, ℕ, ◌≤◌, ◌||◌, not, MatchResult, OnOk};
 ghost use Rattle.std.specs.VecDeque.{deque_capacity};
 ghost use Rattle.yaml_text.specs.declared.token.yaml_token_t.{yaml_token_t as code_token_t};
 ghost use Rattle.yaml_text.specs.declared.types.yaml_mark_t.{yaml_mark_t};
@@ -8,7 +8,8 @@ ghost use Rattle.yaml_text.specs.Text.{Text};
 ghost use Rattle.yaml_lexeme.specs.Lexeme.{Lexeme};
 ghost use Rattle.yaml_lexeme.specs.LexemeOf.{lexeme_of};
 ghost use Rattle.yaml_lexeme.specs.Counted.{IsMarkOf};
-ghost use Rattle.yaml_scan.specs.Kind.{is_stream_end};
+ghost use Rattle.yaml_scan.specs.Kind.{is_candidate_kind, is_flow_start, is_stream_end};
+ghost use Rattle.yaml_scan.specs.inside.Slots.{is_live, lowest};
 ghost use Rattle.yaml_scan.specs.Laid.{Laid};
 ghost use Rattle.yaml_scan.specs.inside.Handed.{IsLaidAs, IsReadTo, IsTokenOf, group_with, read_to, FindsRoom};
 ghost use Rattle.yaml_scan.specs.inside.Handed.{IsLaidAlone, LaysTo, StepsTo, WasLaid, group_tokens};
@@ -67,6 +68,13 @@ pub(crate) fn lay_lexeme(state: &mut state_t, read: read_t) -> (usize, block_t)
         (groups_in (scanner_of text state.new) ++ group_with result.0 result.1 false t ∷ []) }
     ensures reach { state.new.reach ≡ read.reach }
     ensures room { length state.new.layout.queue.groups.items < deque_capacity state.new.layout.queue.groups }
+    ensures few { result.0 ≤ length state.old.layout.levels.items }
+    ensures queued { is_candidate_kind read.met.kind ≡ true
+        → state.new.layout.queue.groups.items ≡ state.old.layout.queue.groups.items }
+    ensures none { lowest (state.old.slots.outer.items ++ state.old.slots.top ∷ []) ≡ None
+        → is_candidate_kind read.met.kind ≡ true → is_flow_start read.met.kind ≡ false
+        → (read.met.allowed ≡ true → is_live state.old.limit read.reach read.met.new ≡ false)
+        → state.new.slots.awaited ≡ 0 }
 {
     let met = read.met;
     let gap_end = state.gap_end;

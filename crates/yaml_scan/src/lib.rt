@@ -14,6 +14,8 @@ mod kind;
 mod laid;
 pub mod laws;
 mod layout;
+mod lend;
+mod lent;
 mod levels;
 mod met;
 mod near;
@@ -35,6 +37,7 @@ mod stop;
 pub use calls::{yaml_answer_t, yaml_call_t, yaml_run};
 pub use give::{yaml_scan_all, yaml_scan_all_limit, yaml_scan_next_to, yaml_scan_to};
 pub use keys::{KEY_LIMIT, MOST_KEY_LIMIT};
+pub use lent::yaml_lent_scalar_t;
 pub use parser::{
     yaml_parser_fault, yaml_parser_has_token, yaml_parser_mark, yaml_parser_peek,
     yaml_parser_queued, yaml_parser_scan, yaml_parser_skip, yaml_parser_t, yaml_scan_next,

@@ -1,19 +1,22 @@
 //! The sink of tokens, and where the group of a step goes: into the queue, or straight to a sink if nothing of it has
 //! to wait.
 ghost use Rattle.std.specs.Prelude.{◌≡◌, ℕ, ◌+◌, ◌<◌, ◌≤◌, ◌^◌, List, [], ◌∷◌, ◌++◌, ◌⊎◌, true, false, length};
-ghost use Rattle.std.specs.Prelude.{MatchResult, if◌then◌else◌, OnErr, OnOk};
+ghost use Rattle.std.specs.Prelude.{Bool, MatchResult, if◌then◌else◌, OnErr, OnOk};
 ghost use Rattle.std.specs.VecDeque.{deque_capacity};
+ghost use Rattle.yaml_text.specs.declared.token.yaml_token_t.{yaml_token_t as code_token_t};
 ghost use Rattle.yaml_text.specs.Token.{Token, data_of, token_of};
 ghost use Rattle.yaml_text.specs.Text.{Text};
 ghost use Rattle.yaml_scan.specs.Sink.{said_len, texts_len};
+ghost use Rattle.yaml_scan.specs.Lent.{lent_token};
 ghost use Rattle.yaml_scan.specs.Words.{HasWords};
 ghost use Rattle.yaml_scan.specs.declared.stop.stop_t.TheVariants.{SINK};
-ghost use Rattle.yaml_scan.specs.inside.Queue.{ends_at, leads, starts_at};
+ghost use Rattle.yaml_scan.specs.inside.Queue.{ends_at, leads_at, starts_at};
 ghost use Rattle.yaml_scan.specs.Groups.Token.{InsertedKey};
-ghost use Rattle.yaml_scan.specs.inside.Handed.{Gives, IsHandedOn, group_tokens, keys_of, lone, starts_of, told_leads};
+ghost use Rattle.yaml_scan.specs.inside.Handed.{Gives, IsHandedOn, group_tokens, group_with, keys_of, lone, starts_of, told_leads};
 ghost use Rattle.yaml_scan.specs.inside.Scanner.{scanner_of};
 
 use crate::groups::{block_t, group_t, token_at};
+use crate::lent::yaml_lent_scalar_t;
 use crate::state::state_t;
 use crate::stop::{stop_by_sink, stop_t, stopped};
 use std::alloc::{AllocError, Global};
@@ -37,6 +40,14 @@ pub trait yaml_token_sink_t {
     fn put(&mut self, token: yaml_token_t) -> Result<(), AllocError>
         requires { HasWords (token_of token).token_data }
         ensures taken { OnOk result (took self.old (token_of token ∷ []) self.new) }
+        ensures kept { OnErr result (took self.old [] self.new) }
+        ensures refused { OnErr result may_refuse };
+
+    /// Takes a scalar that stands in the text as it is. It is lent: the value lives until this returns. `AllocError` if
+    /// it found no memory for the token; then nothing was taken.
+    fn put_scalar(&mut self, scalar: &yaml_lent_scalar_t) -> Result<(), AllocError>
+        requires { HasWords (lent_token scalar.now).token_data }
+        ensures taken { OnOk result (took self.old (lent_token scalar.now ∷ []) self.new) }
         ensures kept { OnErr result (took self.old [] self.new) }
         ensures refused { OnErr result may_refuse };
 
@@ -74,6 +85,10 @@ impl yaml_token_sink_t for no_sink_t {
         Ok(())
     }
 
+    fn put_scalar(&mut self, _scalar: &yaml_lent_scalar_t) -> Result<(), AllocError> {
+        Ok(())
+    }
+
     #[inline(always)]
     fn room(&mut self, alloc: Global) -> Vec<u8> {
         Vec::new(alloc)
@@ -98,6 +113,21 @@ pub(crate) fn give<S: yaml_token_sink_t>(sink: &mut S, token: yaml_token_t) -> R
     ensures { Gives (λ tokens. S.took sink.old tokens sink.new) S.may_refuse (token_of token ∷ []) result }
 {
     match sink.put(token) {
+        Ok(_) => Ok(()),
+        Err(_) => Err(stop_by_sink()),
+    }
+}
+
+/// Lends a scalar to a sink.
+#[inline(always)]
+fn give_scalar<S: yaml_token_sink_t>(
+    sink: &mut S,
+    scalar: &yaml_lent_scalar_t,
+) -> Result<(), stop_t>
+    requires { HasWords (lent_token scalar.now).token_data }
+    ensures { Gives (λ tokens. S.took sink.old tokens sink.new) S.may_refuse (lent_token scalar.now ∷ []) result }
+{
+    match sink.put_scalar(scalar) {
         Ok(_) => Ok(()),
         Err(_) => Err(stop_by_sink()),
     }
@@ -158,24 +188,27 @@ fn give_blocks<S: yaml_token_sink_t>(
     give_start(sink, opens, mark)
 }
 
-/// Whether a group hands out a block end or the start of a block collection.
+/// Whether some block ends, and what is opened after them, are any tokens.
 #[inline(always)]
-fn has_blocks(group: &group_t) -> bool
-    ensures { result ≡ false → ends_at group.now.ends group.now.token.start_mark
-        ++ starts_at group.now.opens group.now.token.start_mark ≡ [] }
+fn has_blocks(ends: usize, opens: block_t) -> bool
+    ensures { (mark : yaml_mark_t) → result ≡ false → ends_at ends mark ++ starts_at opens mark ≡ [] }
 {
-    group.ends > 0 || !matches!(group.opens, block_t::NONE)
+    ends > 0 || !matches!(opens, block_t::NONE)
 }
 
-/// Gives the block ends of a group and the start of a block collection to a sink, if it hands out any.
+/// Gives block ends, and then the start of a block collection or none, to a sink. Most tokens have neither before them.
 #[inline(always)]
-fn give_blocks_of<S: yaml_token_sink_t>(sink: &mut S, group: &group_t) -> Result<(), stop_t>
-    ensures { let mark = group.now.token.start_mark in
-        Gives (λ tokens. S.took sink.old tokens sink.new) S.may_refuse
-        (told_leads (ends_at group.now.ends mark ++ starts_at group.now.opens mark)) result }
+fn give_any_blocks<S: yaml_token_sink_t>(
+    sink: &mut S,
+    ends: usize,
+    opens: block_t,
+    mark: yaml_mark_t,
+) -> Result<(), stop_t>
+    ensures { Gives (λ tokens. S.took sink.old tokens sink.new) S.may_refuse
+        (told_leads (ends_at ends mark ++ starts_at opens mark)) result }
 {
-    if has_blocks(group) {
-        give_blocks(sink, group.ends, group.opens, group.token.start_mark)
+    if has_blocks(ends, opens) {
+        give_blocks(sink, ends, opens, mark)
     } else {
         Ok(())
     }
@@ -194,13 +227,20 @@ fn give_key<S: yaml_token_sink_t>(sink: &mut S, key: bool, mark: yaml_mark_t) ->
     }
 }
 
-/// Gives what a group hands out before its token to a sink.
+/// Gives what a group hands out before its token, which starts at a mark, to a sink.
 #[inline(always)]
-fn give_leads<S: yaml_token_sink_t>(sink: &mut S, group: &group_t) -> Result<(), stop_t>
-    ensures { Gives (λ tokens. S.took sink.old tokens sink.new) S.may_refuse (told_leads (leads group.now)) result }
+fn give_leads<S: yaml_token_sink_t>(
+    sink: &mut S,
+    ends: usize,
+    opens: block_t,
+    key: bool,
+    mark: yaml_mark_t,
+) -> Result<(), stop_t>
+    ensures { Gives (λ tokens. S.took sink.old tokens sink.new) S.may_refuse (told_leads (leads_at ends opens key mark))
+        result }
 {
-    match give_blocks_of(sink, group) {
-        Ok(_) => give_key(sink, group.key, group.token.start_mark),
+    match give_any_blocks(sink, ends, opens, mark) {
+        Ok(_) => give_key(sink, key, mark),
         Err(stop) => Err(stopped(stop)),
     }
 }
@@ -211,8 +251,34 @@ pub(crate) fn give_group<S: yaml_token_sink_t>(sink: &mut S, group: group_t) -> 
     requires { HasWords (token_of group.token).token_data }
     ensures { Gives (λ tokens. S.took sink.old tokens sink.new) S.may_refuse (group_tokens group) result }
 {
-    match give_leads(sink, &group) {
+    match give_leads(
+        sink,
+        group.ends,
+        group.opens,
+        group.key,
+        group.token.start_mark,
+    ) {
         Ok(_) => give(sink, group.token),
+        Err(stop) => Err(stopped(stop)),
+    }
+}
+
+/// Gives all that the group of a scalar hands out to a sink, which is lent the scalar.
+#[inline(always)]
+fn give_lent<S: yaml_token_sink_t>(
+    sink: &mut S,
+    ends: usize,
+    opens: block_t,
+    key: bool,
+    scalar: &yaml_lent_scalar_t,
+) -> Result<(), stop_t>
+    requires { HasWords (lent_token scalar.now).token_data }
+    ensures { (t : code_token_t) → token_of t ≡ lent_token scalar.now
+        → Gives (λ tokens. S.took sink.old tokens sink.new) S.may_refuse (group_tokens (group_with ends opens key t))
+        result }
+{
+    match give_leads(sink, ends, opens, key, scalar.start_mark) {
+        Ok(_) => give_scalar(sink, scalar),
         Err(stop) => Err(stopped(stop)),
     }
 }
@@ -224,7 +290,7 @@ fn give_keyless<S: yaml_token_sink_t>(sink: &mut S, group: group_t) -> Result<()
     requires words { HasWords (token_of group.token).token_data }
     ensures { Gives (λ tokens. S.took sink.old tokens sink.new) S.may_refuse (group_tokens group) result }
 {
-    match give_blocks_of(sink, &group) {
+    match give_any_blocks(sink, group.ends, group.opens, group.token.start_mark) {
         Ok(_) => give(sink, group.token),
         Err(stop) => Err(stopped(stop)),
     }
@@ -249,12 +315,20 @@ fn keys_of(key: bool) -> u128
     if key { 1 } else { 0 }
 }
 
+/// How many tokens a group hands out that has so many block ends, opens that, and has a key or none.
+#[inline(always)]
+fn count_with(ends: usize, opens: block_t, key: bool) -> u128
+    ensures { (t : code_token_t) → result ≡ length (group_tokens (group_with ends opens key t)) }
+{
+    ends as u128 + starts_of(opens) + keys_of(key) + 1
+}
+
 /// How many tokens a group hands out.
 #[inline(always)]
 pub(crate) fn count_of(group: &group_t) -> u128
     ensures { result ≡ length (group_tokens group.now) }
 {
-    group.ends as u128 + starts_of(group.opens) + keys_of(group.key) + 1
+    count_with(group.ends, group.opens, group.key)
 }
 
 /// How many bytes the texts have of what a token says.
@@ -422,6 +496,37 @@ pub(crate) fn hand_token<const DIRECT: bool, S: yaml_token_sink_t>(
         Ok(_) => {
             state.layout.queue.done += 1;
             state.taken += 1;
+            Ok(())
+        }
+        Err(stop) => Err(stopped(stop)),
+    }
+}
+
+/// Hands on the group of a scalar that a step has laid and that need not wait: straight to the sink, which is lent the
+/// scalar. The group has so many block ends, opens that, and has a key or none.
+#[inline(always)]
+pub(crate) fn hand_lent<S: yaml_token_sink_t>(
+    state: &mut state_t,
+    sink: &mut S,
+    ends: usize,
+    opens: block_t,
+    key: bool,
+    scalar: &yaml_lent_scalar_t,
+) -> Result<(), stop_t>
+    requires words { HasWords (lent_token scalar.now).token_data }
+    requires done { state.old.layout.queue.done + 1 < 2 ^ 64 }
+    requires taken { (t : code_token_t) × (token_of t ≡ lent_token scalar.now)
+        × (state.old.taken + length (group_tokens (group_with ends opens key t)) < 2 ^ 128) }
+    ensures { (text : Text) (waits : Bool) (t : code_token_t) → waits ≡ false → token_of t ≡ lent_token scalar.now
+        → IsHandedOn true waits (scanner_of text state.old) (scanner_of text state.new) (group_with ends opens key t)
+        (λ tokens. S.took sink.old tokens sink.new)
+        S.may_refuse result }
+{
+    let count = count_with(ends, opens, key);
+    match give_lent(sink, ends, opens, key, scalar) {
+        Ok(_) => {
+            state.layout.queue.done += 1;
+            state.taken += count;
             Ok(())
         }
         Err(stop) => Err(stopped(stop)),

@@ -1,7 +1,8 @@
 //! The readers of `yaml_lexeme`, with contracts over places instead of marks.
-ghost use Rattle.std.specs.Prelude.{◌≡◌, ℕ, ◌≤◌, Bool, Option, Some, length, IfSome, true};
+ghost use Rattle.std.specs.Prelude.{◌≡◌, ℕ, ◌≤◌, ◌<◌, ◌^◌, Bool, Option, Some, length, IfSome, true};
+ghost use Rattle.yaml_text.specs.declared.types.yaml_mark_t.{yaml_mark_t};
 ghost use Rattle.yaml_lexeme.specs.KindSets.{is_character, marker_kind};
-ghost use Rattle.yaml_lexeme.specs.LexemeOf.{lexeme_of};
+ghost use Rattle.yaml_lexeme.specs.LexemeOf.{lexeme_of, part_from};
 ghost use Rattle.yaml_lexeme.specs.Counted.{IsMarkOf};
 ghost use Rattle.yaml_lexeme.specs.declared.kind.yaml_lexeme_kind_t.TheVariants.{STREAM_END};
 ghost use Rattle.yaml_scan.specs.SourceOf.{source_of};
@@ -11,7 +12,7 @@ ghost use Rattle.yaml_scan.specs.inside.TextReads.{IsRead};
 
 use crate::state::state_t;
 use yaml_lexeme::{
-    yaml_context_t, yaml_gap, yaml_lexeme_kind, yaml_lexeme_kind_t, yaml_lexeme_t,
+    yaml_context_t, yaml_gap, yaml_lexeme_kind, yaml_lexeme_kind_t, yaml_lexeme_t, yaml_part_t,
     yaml_read_character, yaml_read_marker, yaml_read_stream_end, yaml_reader_t, yaml_refusal_t,
     yaml_spot_t,
 };
@@ -68,6 +69,23 @@ pub(crate) fn read_lexeme<R: yaml_reader_t>(
         state.there = spot.at;
     }
     read
+}
+
+/// The scalar of a reader's kind after the gap, if it stands in the text as it is and a quick look shows where it ends.
+#[inline(always)]
+pub(crate) fn part_at<'a, R: yaml_reader_t>(
+    text: &'a yaml_text_t<'_>,
+    state: &state_t,
+    context: yaml_context_t,
+) -> Option<yaml_part_t<'a>>
+    requires place { (p : ℕ) × IsMarkOf text.now.chars state.now.gap_end p }
+    requires level { IfSome context.level (λ l. l ≤ length text.now.chars) }
+    ensures read { IfSome result (λ part. (start : yaml_mark_t) (p : ℕ)
+        → IsMarkOf text.now.chars state.now.gap_end p
+        → IsRead text.now.chars R.KIND context.depth context.level p (part_from start part)) }
+    ensures size { IfSome result (λ part. length part.value.now < 2 ^ 63) }
+{
+    R::part(text, state.gap_end, context)
 }
 
 /// The lexeme of one character after the gap.

@@ -1,7 +1,7 @@
 //! A step: the gap, the kind of the next lexeme, the lexeme, and what the layout makes of it. The kind has to be
 //! allowed there, and what is kept of the lexeme needs room.
 ghost use Rattle.std.specs.Prelude.{List, ◌≡◌, ◌⊎◌, true, MatchResult, ◌<◌, nat_lt, vec_len, OnOk, ◌++◌, ◌∷◌, [], ◌≤◌};
-ghost use Rattle.std.specs.Prelude.{◌||◌, IfOk};
+ghost use Rattle.std.specs.Prelude.{◌||◌, IfOk, IfSome, None, false};
 ghost use Rattle.yaml_text.specs.Fault.{memory_fault};
 ghost use Rattle.yaml_text.specs.Text.{Text};
 ghost use Rattle.yaml_lexeme.specs.KindSets.{is_character, marker_kind};
@@ -9,7 +9,8 @@ ghost use Rattle.yaml_lexeme.specs.declared.kind.yaml_lexeme_kind_t.TheVariants.
 ghost use Rattle.yaml_scan.specs.Laid.{Laid};
 ghost use Rattle.yaml_scan.specs.inside.Scanner.{scanner_of};
 ghost use Rattle.yaml_scan.specs.inside.Scanning.{Beside, CanRead, Comes, HasRoom, IsMet, Refuses, Stays, allowed_in};
-ghost use Rattle.yaml_scan.specs.inside.Scanning.{CanStep, IsStep, CanLayAll, IsReadIn};
+ghost use Rattle.yaml_scan.specs.inside.Scanning.{CanStep, IsStep, CanLayAll, IsReadIn, groups_in};
+ghost use Rattle.yaml_scan.specs.Kind.{is_candidate_kind, is_flow_start};
 ghost use Rattle.yaml_scan.specs.inside.Stop.{fault_at};
 ghost use Rattle.yaml_scan.specs.inside.Handed.{StepsTo, IsReadTo, IsTokenOf, read_to, FindsRoom, WasLaid};
 ghost use Rattle.yaml_text.specs.declared.token.yaml_token_t.{yaml_token_t as code_token_t};
@@ -25,11 +26,14 @@ use crate::keys::is_lost;
 use crate::laid::{
     check_reach, end_character, end_laid, end_queued, is_queued, laid_t, lay_alone, token_of,
 };
+use crate::lend::{end_scalar, goes_well, lay_lent, lent_of, may_be_lent};
 use crate::met::met_t;
 use crate::read::read_t;
 use crate::sink::{has_room_for_both, no_sink_t, said_len, yaml_token_sink_t};
 use crate::slots::root_at;
-use crate::source::{gap_end, kind_at, read_character, read_lexeme, read_marker, read_stream_end};
+use crate::source::{
+    gap_end, kind_at, part_at, read_character, read_lexeme, read_marker, read_stream_end,
+};
 use crate::state::state_t;
 use crate::stop::{
     stop_at_kind, stop_at_start, stop_in_gap, stop_in_lexeme, stop_t, stop_without_kind, stopped,
@@ -120,7 +124,7 @@ fn refuse_kind(
 /// Begins the step of a lexeme of a kind, which comes after the gap. `in_flow`: the scanner is inside a flow
 /// collection.
 #[inline(always)]
-pub(crate) fn begin_step(
+fn begin_step(
     text: &yaml_text_t,
     state: &mut state_t,
     in_flow: bool,
@@ -130,7 +134,9 @@ pub(crate) fn begin_step(
     requires { Comes before (scanner_of text.now state.old) in_flow kind }
     ensures { MatchResult result
         (λ met. CanRead before (scanner_of text.now state.new) met × (met.kind ≡ kind) × Stays
-        (scanner_of text.now state.old) (scanner_of text.now state.new))
+        (scanner_of text.now state.old) (scanner_of text.now state.new)
+        × Comes before (scanner_of text.now state.new) in_flow kind
+        × (groups_in (scanner_of text.now state.new) ≡ groups_in (scanner_of text.now state.old)))
         (λ stop. Refuses before (scanner_of text.now state.old) (scanner_of text.now state.new) stop) }
 {
     let allowed = is_key_allowed(state.allowed, in_flow, state.reach, state.gap_end);
@@ -251,6 +257,97 @@ fn step_lexeme<R: yaml_reader_t, const IN_FLOW: bool, const DIRECT: bool, S: yam
     }
 }
 
+/// Makes the step of a scalar of a reader's kind, and lends it to the sink, if the scalar stands in the text as it is,
+/// nothing of what the step lays has to wait, and the sink has room for that. Nothing is queued. Of any other scalar no
+/// step is made, and nothing is returned, unless the kind is refused.
+#[inline(always)]
+fn lend<R: yaml_reader_t, const IN_FLOW: bool, S: yaml_token_sink_t>(
+    text: &yaml_text_t,
+    state: &mut state_t,
+    sink: &mut S,
+) -> Option<Result<(), stop_t>>
+    ghost before: { List Laid }
+    requires comes { Comes before (scanner_of text.now state.old) IN_FLOW R.KIND }
+    requires candidate { is_candidate_kind R.KIND ≡ true }
+    requires stays { is_flow_start R.KIND ≡ false }
+    requires alone { groups_in (scanner_of text.now state.old) ≡ [] }
+    ensures steps { IfSome result (λ r. StepsTo before (scanner_of text.now state.old) (scanner_of text.now state.new) true
+        (λ tokens. S.took sink.old tokens sink.new) S.may_refuse r) }
+    ensures within { IfSome result (λ r. OnOk r (S.within sink.old → S.within sink.new)) }
+    ensures comes { result ≡ None → Comes before (scanner_of text.now state.new) IN_FLOW R.KIND
+        × Stays (scanner_of text.now state.old) (scanner_of text.now state.new) }
+    ensures none { result ≡ None → sink.new ≡ sink.old }
+{
+    let met = match begin_step(text, state, IN_FLOW, R::KIND) {
+        Ok(met) => met,
+        Err(stop) => return Some(Err(stopped(stop))),
+    };
+    let part = part_at::<R>(text, state, met.context)?;
+    let read = read_t {
+        met,
+        reach: part.reach,
+        passed_break: part.passed_break,
+        texts: part.value.len() as u128,
+    };
+    if !goes_well(state, met, part.reach)
+        || !has_room_for_both::<true, S>(sink, &state.layout.levels, read.texts)
+    {
+        return None;
+    }
+    let laid = lay_lent(text, state, read)?;
+    Some(end_scalar(state, sink, laid, &lent_of(met.new.start, &part)))
+}
+
+/// Makes the step of a scalar of a reader's kind while nothing is queued, and lends the scalar to the sink, if that may
+/// be; else the step of its lexeme.
+#[inline(never)]
+fn step_lent<R: yaml_reader_t, const IN_FLOW: bool, S: yaml_token_sink_t>(
+    text: &yaml_text_t,
+    state: &mut state_t,
+    sink: &mut S,
+) -> Result<(), stop_t>
+    ghost before: { List Laid }
+    requires comes { Comes before (scanner_of text.now state.old) IN_FLOW R.KIND }
+    requires candidate { is_candidate_kind R.KIND ≡ true }
+    requires stays { is_flow_start R.KIND ≡ false }
+    requires alone { groups_in (scanner_of text.now state.old) ≡ [] }
+    ensures steps { StepsTo before (scanner_of text.now state.old) (scanner_of text.now state.new) true
+        (λ tokens. S.took sink.old tokens sink.new)
+        S.may_refuse result }
+    ensures within { OnOk result (S.within sink.old → S.within sink.new) }
+{
+    match lend::<R, IN_FLOW, S>(text, state, sink) {
+        Some(made) => made,
+        None => step_lexeme::<R, IN_FLOW, true, S>(text, state, sink),
+    }
+}
+
+/// Makes the step of a plain or quoted scalar, of the kind of a reader. It is asked here whether it may be lent, so that
+/// one that is not pays for nothing else.
+#[inline(always)]
+fn step_scalar<
+    R: yaml_reader_t,
+    const QUOTED: bool,
+    const IN_FLOW: bool,
+    const DIRECT: bool,
+    S: yaml_token_sink_t,
+>(text: &yaml_text_t, state: &mut state_t, sink: &mut S) -> Result<(), stop_t>
+    ghost before: { List Laid }
+    requires comes { Comes before (scanner_of text.now state.old) IN_FLOW R.KIND }
+    requires candidate { is_candidate_kind R.KIND ≡ true }
+    requires stays { is_flow_start R.KIND ≡ false }
+    ensures steps { StepsTo before (scanner_of text.now state.old) (scanner_of text.now state.new) DIRECT
+        (λ tokens. S.took sink.old tokens sink.new)
+        S.may_refuse result }
+    ensures within { OnOk result (S.within sink.old → S.within sink.new) }
+{
+    if DIRECT && may_be_lent::<QUOTED, IN_FLOW>(state) {
+        step_lent::<R, IN_FLOW, S>(text, state, sink)
+    } else {
+        step_lexeme::<R, IN_FLOW, DIRECT, S>(text, state, sink)
+    }
+}
+
 /// Makes the step of a lexeme that may be refused, of the kind of a reader. Its group goes into the queue, so one
 /// function serves every sink.
 #[inline(always)]
@@ -349,13 +446,13 @@ fn step_kind<const IN_FLOW: bool, const DIRECT: bool, S: yaml_token_sink_t>(
 {
     match kind {
         yaml_lexeme_kind_t::PLAIN => {
-            step_lexeme::<plain_reader_t, IN_FLOW, DIRECT, S>(text, state, sink)
+            step_scalar::<plain_reader_t, false, IN_FLOW, DIRECT, S>(text, state, sink)
         }
         yaml_lexeme_kind_t::SINGLE_QUOTED => {
-            step_lexeme::<quoted_reader_t<true>, IN_FLOW, DIRECT, S>(text, state, sink)
+            step_scalar::<quoted_reader_t<true>, true, IN_FLOW, DIRECT, S>(text, state, sink)
         }
         yaml_lexeme_kind_t::DOUBLE_QUOTED => {
-            step_lexeme::<quoted_reader_t<false>, IN_FLOW, DIRECT, S>(text, state, sink)
+            step_scalar::<quoted_reader_t<false>, true, IN_FLOW, DIRECT, S>(text, state, sink)
         }
         yaml_lexeme_kind_t::LITERAL => {
             step_lexeme::<block_reader_t<false>, IN_FLOW, DIRECT, S>(text, state, sink)

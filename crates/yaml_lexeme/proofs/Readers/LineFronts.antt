@@ -1,13 +1,15 @@
 -- The bytes of a run are the first bytes of what is left, and so are those of its trimmed piece.
-use Rattle.std.proofs.Common.{◌≡◌, ℕ, ◌≤◌, Bool, List, ◌++◌, length, take, drop, sym, ap, subst, ◌∙◌, arith, append_assoc}
+use Rattle.std.proofs.Common.{◌≡◌, ℕ, ◌-◌, ◌≤◌, Bool, List, ◌++◌, length, take, drop, refl, sym, ap, subst, ◌∙◌, arith, append_assoc}
 use Rattle.std.proofs.lemmas.List.{take-append-drop, length-append}
 use Rattle.std.proofs.lemmas.Str.{encodes-append}
 use Rattle.std.proofs.Math.Seq.{take-append_seam}
 use Rattle.yaml_text.specs.Chars.{utf8}
-use Rattle.yaml_lexeme.specs.Place.{Place, run, run_len}
+use Rattle.yaml_lexeme.specs.Place.{Place, skip, run, run_len, after_run}
 use Rattle.yaml_lexeme.specs.inside.Runs.{class_test, line_of, trim}
-use Rattle.yaml_lexeme.specs.inside.Words.{IsPiece}
+use Rattle.yaml_lexeme.specs.inside.Words.{IsInLine, IsPiece}
 use Rattle.yaml_lexeme.proofs.ManyBytes.TrimmedLists.{trimmed}
+use Rattle.yaml_lexeme.proofs.Places.CursorMoves.{run_bytes}
+use Rattle.yaml_lexeme.proofs.Places.PlaceMoves.{rest_skip}
 
 -- xs are the first of ys
 pub record IsFront (xs ys : List ℕ) : Type 0 where
@@ -38,3 +40,15 @@ trimmed_front test p =
 
 pub piece_front : (single : Bool) (p q : Place) (piece : List ℕ) → IsPiece single p q piece → IsFront piece (utf8 p.rest)
 piece_front single p q piece is = subst (λ (y : List ℕ). IsFront y (utf8 p.rest)) (sym is.1) (run_front (class_test (line_of single)) p)
+
+-- where the piece ends that goes on at q, and what it is
+pub far_piece : (single : Bool) (p q r : Place) (left : List ℕ) → IsInLine single p q left → r ≡ after_run (class_test (line_of single)) q → (length (utf8 r.rest) ≤ length left) × IsPiece single p r (take (length left - length (utf8 r.rest)) left)
+far_piece single p q r left is e =
+    let test = class_test (line_of single) in
+    let end : r ≡ after_run test p = e ∙ is.0 in
+    let b = run_bytes test p r left _ end is.1 refl in
+    (b.0, (end, b.1))
+
+-- no more bytes are left at a later place
+pub left_within : (n : ℕ) (p : Place) → length (utf8 (skip n p).rest) ≤ length (utf8 p.rest)
+left_within n p = omega (arith, ap (λ (x : List ℕ). length (utf8 x)) (rest_skip n p), ap (λ (x : List ℕ). length x) (whole n p.rest), length-append (utf8 (take n p.rest)) (utf8 (drop n p.rest)))

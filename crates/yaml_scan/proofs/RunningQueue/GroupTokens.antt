@@ -1,9 +1,11 @@
 -- What a group hands out, and that a sink was given it token by token.
-use Rattle.std.proofs.Common.{◌≡◌, ℕ, zero, suc, ◌+◌, ◌≤◌, ◌<◌, Bool, true, false, List, [], ◌∷◌, ◌++◌, length, length-append, append-nil, append_assoc, Ok, Err, refl, ap, sym, ◌∙◌, subst, arith}
+use Rattle.std.proofs.Common.{◌≡◌, ℕ, zero, suc, ◌+◌, ◌≤◌, ◌<◌, Bool, true, false, List, [], ◌∷◌, ◌++◌, map, filter, reverse, length, length-append, append-nil, append_assoc, Ok, Err, refl, ap, sym, ◌∙◌, subst, arith}
 use Rattle.std.specs.Prelude.{Result, if◌then◌else◌}
 use Rattle.std.specs.List.{list_any}
 use Rattle.std.proofs.lemmas.Bool.{false≢true}
+use Rattle.std.proofs.lemmas.List.{length-map, length-reverse}
 use Rattle.std.proofs.lemmas.List.Folds.{list_any-append}
+use Rattle.std.proofs.lemmas.List.Sums.{count_by-le-length, length-filter}
 use Rattle.yaml_text.specs.declared.types.yaml_encoding_t.TheVariants.{YAML_UTF8_ENCODING}
 use Rattle.yaml_text.specs.declared.types.yaml_mark_t.{yaml_mark_t}
 use Rattle.yaml_text.specs.Token.{token_of}
@@ -43,6 +45,18 @@ told_append (x ∷ xs) ys = ap (λ (zs : List yaml_token_t). handed_out YAML_UTF
 pub ends_count : (n : ℕ) (m : yaml_mark_t) → length (ends_at n m) ≡ n
 ends_count zero m = refl
 ends_count (suc n) m = ap suc (ends_count n m)
+
+-- they are at most as many as what they were made of
+pub ends_few : (early ends : ℕ) (m n : yaml_mark_t) (f : ℕ → Token) (p : ℕ → Bool) (cs : List ℕ) → ends_at early m ++ ends_at ends n ≡ map f (filter p (reverse cs)) → ends ≤ length cs
+ends_few early ends m n f p cs e =
+    let a = ap (λ (l : List Token). length l) e in
+    let b = length-append (ends_at early m) (ends_at ends n) in
+    let c = ends_count ends n in
+    let d = length-map (filter p (reverse cs)) f in
+    let h = length-filter p (reverse cs) in
+    let k = count_by-le-length p (reverse cs) in
+    let l = length-reverse cs in
+    omega arith
 
 starts_count : (b : block_t) (m : yaml_mark_t) → length (starts_at b m) ≡ starts_of b
 starts_count NONE m = refl

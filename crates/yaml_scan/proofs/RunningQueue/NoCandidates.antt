@@ -1,5 +1,5 @@
 -- Where no token is queued, there is no candidate.
-use Rattle.std.proofs.Common.{◌≡◌, ℕ, zero, suc, false, ◌-◌, ◌≤◌, ◌<◌, List, [], ◌∷◌, map, take, length, length-append, Option, Some, None, refl, ap, sym, ◌∙◌, arith, inl, inr, eqb-true}
+use Rattle.std.proofs.Common.{◌≡◌, ℕ, zero, suc, false, ◌-◌, ◌≤◌, ◌<◌, List, [], ◌∷◌, ◌++◌, map, take, length, length-append, Option, Some, None, refl, ap, sym, ◌∙◌, arith, inl, inr, eqb-true}
 use Rattle.std.specs.Prelude.{◌⊎◌, slice_get}
 use Rattle.yaml_text.specs.declared.types.yaml_mark_t.{yaml_mark_t}
 use Rattle.yaml_scan.specs.inside.Scanner.{Scanner}
@@ -26,8 +26,8 @@ up_to_short limit H k c h s =
     omega arith
 
 -- the token of a candidate would be queued
-pub none_held : (H : List Laid) (n : ℕ) (s : Scanner) → Holds H n s → s.layout.queue.groups.items ≡ [] → lowest s.slots.outer.items ≡ None
-none_held H n s h e = rw h.keys.outer (go (lowest_is s.limit H (depth H)))
+none_to : (H : List Laid) (n : ℕ) (s : Scanner) → Holds H n s → s.layout.queue.groups.items ≡ [] → (k : ℕ) → lowest (outer_to s.limit H k) ≡ None
+none_to H n s h e k = go (lowest_is s.limit H k)
   where
     all_taken : length (offline H) ≤ s.taken
     all_taken =
@@ -35,7 +35,7 @@ none_held H n s h e = rw h.keys.outer (go (lowest_is s.limit H (depth H)))
         let z : length (offline H) - s.taken ≡ 0 = eqb-true _ _ (sym l ∙ (rw e refl)) in
         omega arith
 
-    go : IsLowest s.limit H (depth H) ⊎ IsNone s.limit H (depth H) → lowest (outer_to s.limit H (depth H)) ≡ None
+    go : IsLowest s.limit H k ⊎ IsNone s.limit H k → lowest (outer_to s.limit H k) ≡ None
     go (inr r) = r.told
     go (inl r) =
         let c = held_is s.limit H r.at r.here r.is in
@@ -44,6 +44,13 @@ none_held H n s h e = rw h.keys.outer (go (lowest_is s.limit H (depth H)))
         let t = h.taken in
         let l = all_taken in
         absurd (omega arith)
+
+pub none_held : (H : List Laid) (n : ℕ) (s : Scanner) → Holds H n s → s.layout.queue.groups.items ≡ [] → lowest s.slots.outer.items ≡ None
+none_held H n s h e = rw h.keys.outer (none_to H n s h e (depth H))
+
+-- nor is there one of the present depth
+pub none_at_all : (H : List Laid) (n : ℕ) (s : Scanner) → Holds H n s → s.layout.queue.groups.items ≡ [] → lowest (s.slots.outer.items ++ s.slots.top ∷ []) ≡ None
+none_at_all H n s h e = rw (h.keys.outer, h.keys.top) (none_to H n s h e (suc (depth H)))
 
 -- SLOTS WITHOUT CANDIDATES
 pub all_empty : (hs : List (Option Held)) → lowest hs ≡ None → length hs ≡ empty_slots hs

@@ -402,6 +402,15 @@ few_given y z n m E O K f a b =
     let k = ap keys_of K in
     (omega arith, omega arith)
 
+-- nor if it is one group
+pub few_one : (y : group_t) (n m : ℕ) → y.ends ≤ n → said_len (token_of y.token).token_data ≤ m → (length (group_tokens y) ≤ n + 4) × (texts_len (group_tokens y) ≤ m)
+few_one y n m f a =
+    let p = count_is y in
+    let g = group_len y in
+    let i = starts_few y.opens in
+    let j = keys_few y.key in
+    (omega arith, omega arith)
+
 -- what is known if a group went into the queue, and if it went to the sink
 pub known_after : (D waits : Bool) (u t : Scanner) (y : group_t) (took : List yaml_token_t → Type 0) (refuses W : Type 0) → (took [] → W) → (waits ≡ false → took (group_tokens y) → W) → (o : Result (Unit {0}) stop_t) → IsHandedOn D waits u t y took refuses o → OnOk o W
 known_after D waits u t y took refuses W none all (Ok x) w = elim w.1 [

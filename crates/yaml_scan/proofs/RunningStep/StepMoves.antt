@@ -181,6 +181,13 @@ ready H s t in_flow k w m b r room K A new d =
       room = room;
     }
 
+-- a lexeme comes that came before there was room
+pub comes_beside : (H : List Laid) (s t : Scanner) (in_flow : Bool) (k : Kind) → Comes H s in_flow k → Beside s t → CanStep H t → Comes H t in_flow k
+comes_beside H s t in_flow k w b can = let c = w.passes in record {
+  passes = record { can = can; flow = rw b.depth c.flow; gap_end = rw (b.text, b.gap_end) c.gap_end; none_lost = rw (b.limit, b.gap_end, b.outer, b.top) c.none_lost };
+  is_kind = rw b.text w.is_kind;
+}
+
 -- THE END
 abbrev pub counted_by : Scanner → ℕ → Scanner
 counted_by s n = made_to s (s.made + n)

@@ -4,7 +4,8 @@ use Rattle.std.proofs.lemmas.Str.{length-le-encodes}
 use Rattle.yaml_text.specs.declared.types.yaml_mark_t.{yaml_mark_t}
 use Rattle.yaml_text.specs.Fault.{Fault}
 use Rattle.yaml_lexeme.specs.Lexeme.{Lexeme as yaml_lexeme_t}
-use Rattle.yaml_lexeme.specs.LexemeOf.{lexeme_of}
+use Rattle.yaml_lexeme.specs.LexemeOf.{lexeme_of, part_from}
+use Rattle.yaml_lexeme.specs.declared.lexeme.yaml_part_t.{yaml_part_t}
 use Rattle.yaml_lexeme.specs.declared.lexeme.yaml_lexeme_t.{yaml_lexeme_t as code_lexeme_t}
 use Rattle.yaml_lexeme.specs.Place.{Place, place_at, start}
 use Rattle.yaml_lexeme.specs.Counted.{IsMarkOf}
@@ -119,6 +120,12 @@ pub reads_well : (s : Scanner) (k : Kind) (x : yaml_context_t) (there other : ya
     → ((p : ℕ) → IsMarkOf s.text.chars s.gap_end p → ReadsAs lexeme_of k s.gap_end there o (lexeme_at k x (place_at s.text.chars p))) → IsReadIn s k x other o
 reads_well s k x there other (Ok l) e f = reads_in s k x other (Ok l) f
 reads_well s k x there other (Err r) e f = cc
+
+-- nor does a part of the text, from whatever start
+pub part_reads : (cs : List ℕ) (k : Kind) (x : yaml_context_t) (at : yaml_mark_t) (o : Option yaml_part_t) → IfSome o (λ part. (n : ℕ) → IsMarkOf cs at n → lexeme_at k x (place_at cs n) ≡ Ok (part_from at part))
+    → IfSome o (λ part. (start : yaml_mark_t) (p : ℕ) → IsMarkOf cs at p → IsRead cs k x.depth x.level p (part_from start part))
+part_reads cs k x at None f = tt
+part_reads cs k x at (Some part) f = λ start p i. read_there cs k x.depth x.level p (part_from at part) (f p i)
 
 -- characters take a byte or more
 pub level_bytes : (cs : List ℕ) (o : Option ℕ) → IfSome o (λ l. l ≤ length cs) → IfSome o (λ l. l ≤ length (utf8 cs))

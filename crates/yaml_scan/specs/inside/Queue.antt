@@ -31,10 +31,13 @@ starts_at NONE m = []
 starts_at SEQUENCE m = BlockSequenceStart m ∷ []
 starts_at MAPPING m = BlockMappingStart m ∷ []
 
+-- block ends, the start of a block collection or none, and a key or none, of one mark
+abbrev pub leads_at : ℕ → block_t → Bool → yaml_mark_t → List Token
+leads_at ends opens key m = ends_at ends m ++ (starts_at opens m ++ (if key then InsertedKey m ∷ [] else []))
+
 -- what a group hands out before its token, at the token's start
 abbrev pub leads : group_t → List Token
-leads y = ends_at y.ends y.token.start_mark
-    ++ (starts_at y.opens y.token.start_mark ++ (if y.key then InsertedKey y.token.start_mark ∷ [] else []))
+leads y = leads_at y.ends y.opens y.key y.token.start_mark
 
 -- the early block ends come before the group that no other one follows
 abbrev pub early_before : ℕ → yaml_mark_t → List group_t → List Token

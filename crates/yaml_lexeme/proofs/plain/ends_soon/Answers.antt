@@ -7,7 +7,7 @@ use Rattle.yaml_lexeme.proofs.plain.ends_soon.Goals as goal
 use Rattle.yaml_lexeme.proofs.plain.ends_soon.Goals.{then-ends_before, else-ends_before}
 
 pub returns : goal.returns
-returns c =
+returns g c =
     let flow = c.args.in_flow in
     let least = c.args.least in
     let p = c.args.cursor.now in

@@ -1,19 +1,9 @@
-use Rattle.std.proofs.Common.{◌≡◌, ℕ, ◌-◌, ◌≤◌, Bool, not, List, ◌∙◌, refl, ap, take, length}
+use Rattle.std.proofs.Common.{not, ◌∙◌, ap}
 use Rattle.std.specs.Prelude.{nat_eq}
-use Rattle.yaml_text.specs.Chars.{utf8}
-use Rattle.yaml_lexeme.specs.Place.{Place, after_run, skip}
-use Rattle.yaml_lexeme.specs.inside.Runs.{class_test, line_of}
-use Rattle.yaml_lexeme.specs.inside.Words.{IsInLine, IsPiece}
-use Rattle.yaml_lexeme.proofs.Places.CursorMoves.{run_bytes}
+use Rattle.yaml_lexeme.specs.Place.{after_run, skip}
+use Rattle.yaml_lexeme.specs.inside.Runs.{class_test}
+use Rattle.yaml_lexeme.proofs.Readers.LineFronts.{far_piece}
 use Rattle.yaml_lexeme.proofs.quoted.take_far.Goals as goal
-
--- where the piece ends that goes on at q, and what it is
-far_piece : (single : Bool) (p q r : Place) (left : List ℕ) → IsInLine single p q left → r ≡ after_run (class_test (line_of single)) q → (length (utf8 r.rest) ≤ length left) × IsPiece single p r (take (length left - length (utf8 r.rest)) left)
-far_piece single p q r left is e =
-    let test = class_test (line_of single) in
-    let end : r ≡ after_run test p = e ∙ is.0 in
-    let b = run_bytes test p r left _ end is.1 refl in
-    (b.0, (end, b.1))
 
 pub between-piece-requires : goal.between-piece-requires
 between-piece-requires g c =

@@ -1,4 +1,4 @@
-use Rattle.std.proofs.Common.{◌≡◌, ◌+◌, ◌++◌, ◌∷◌, [], false, List, Option, length, length-append, vec_len, subst, ap, ◌∙◌, refl, sym, arith}
+use Rattle.std.proofs.Common.{◌≡◌, ◌+◌, ◌++◌, ◌∷◌, [], false, not, reverse, List, Option, None, length, length-append, vec_len, subst, ap, ◌∙◌, refl, sym, arith}
 use Rattle.std.specs.declared.alloc.Global.{Global}
 use Rattle.std.specs.declared.collections.VecDeque.{VecDeque}
 use Rattle.yaml_scan.specs.declared.groups.group_t.{group_t}
@@ -10,6 +10,12 @@ use Rattle.yaml_scan.specs.inside.Handed.{read_to}
 use Rattle.yaml_scan.proofs.RunningStep.StepLaid.{levels_fall, l_falls, fitting}
 use Rattle.yaml_scan.proofs.RunningStep.StepPut.{put_advances}
 use Rattle.yaml_scan.proofs.RunningQueue.SlotOrder.{outer_nested}
+use Rattle.yaml_scan.specs.Groups.{end_at}
+use Rattle.yaml_scan.specs.Groups.Token.{BlockEnd}
+use Rattle.yaml_scan.specs.Levels.{stays}
+use Rattle.yaml_scan.specs.inside.Queue.{completed_in}
+use Rattle.yaml_scan.proofs.RunningQueue.GroupTokens.{ends_few}
+use Rattle.yaml_scan.proofs.RunningQueue.NoneAwaited.{none_awaited, none_completed}
 use Rattle.yaml_scan.proofs.laid.lay_lexeme.Goals as goal
 
 pub close_levels-closed-requires : goal.close_levels-closed-requires
@@ -61,3 +67,22 @@ returns-clause-laid g c = λ X d b e t p T.
       awaited = c.keep_candidates.ensures.awaited;
       allows = c.is_allowed_after-state.ensures;
     }
+
+pub returns-clause-few : goal.returns-clause-few
+returns-clause-few g c =
+    let r = c.args.read.met in
+    ends_few c.close_levels-closed.result.early c.close_levels-closed.result.ends c.args.state.now.gap_end r.new.start (λ z. BlockEnd (end_at r.kind c.args.state.now.gap_end r.new.start z)) (λ z. not (stays r.in_flow r.kind r.new.start z)) c.args.state.now.layout.levels.items c.close_levels-closed.ensures.ends
+
+pub returns-clause-queued : goal.returns-clause-queued
+returns-clause-queued g c = λ q.
+    let r = c.args.read.met in
+    let y = c.keep_early.ensures in
+    let same : c.keep_early.new.self.groups.items ≡ c.put_key-opens.new.self.queue.groups.items = ap (λ (v : VecDeque group_t Global). v.items) y.groups in
+    let none : c.completed_by-completed.result ≡ None = c.completed_by-completed.ensures ∙ none_completed r.kind c.args.state.now.limit r.new.start c.args.state.now.slots.top q in
+    same ∙ c.put_key-opens.ensures.groups ∙ ap (λ (h : Option Held). completed_in r.in_flow h (reverse c.close_levels-closed.new.levels.items) c.args.state.now.layout.queue.done c.args.state.now.layout.queue.groups.items) none
+
+pub returns-clause-none : goal.returns-clause-none
+returns-clause-none g c = λ low q s dead.
+    let r = c.args.read.met in
+    let k = c.keep_candidates.ensures in
+    none_awaited r.kind r.allowed r.new c.args.state.now.limit c.args.read.reach c.args.state.now.slots.outer.items c.args.state.now.slots.top low q s dead _ _ _ k.outer k.top k.awaited

@@ -12,7 +12,7 @@ returns-in-Ok g c =
     let m = y.token.start_mark in
     let xs = ends_at y.ends m ++ starts_at y.opens m in
     subst (λ (ls : List Token). Gives (λ ts. g.S.yaml_token_sink_t.took c.args.sink.now ts c.give.new.sink) g.S.yaml_token_sink_t.may_refuse (told_leads ls ++ token_of y.token ∷ []) c.give.result) (sym (keyless_leads y c.requires.key))
-    (gives_after g.S.yaml_token_sink_t.took g.met.S.yaml_token_sink_t.took_more c.args.sink.now c.give_blocks_of.new.sink c.give.new.sink _ (told_leads xs) (token_of y.token ∷ []) c.give.result c.in-Ok.ensures c.give.ensures)
+    (gives_after g.S.yaml_token_sink_t.took g.met.S.yaml_token_sink_t.took_more c.args.sink.now c.give_any_blocks.new.sink c.give.new.sink _ (told_leads xs) (token_of y.token ∷ []) c.give.result c.in-Ok.ensures c.give.ensures)
 
 pub returns-in-Err : goal.returns-in-Err
 returns-in-Err g c =
@@ -20,4 +20,4 @@ returns-in-Err g c =
     let m = y.token.start_mark in
     let xs = ends_at y.ends m ++ starts_at y.opens m in
     let e = c.in-Err.ensures in
-    (c.stopped.ensures ∙ e.0, subst (λ (ls : List Token). IsCut (λ ts. g.S.yaml_token_sink_t.took c.args.sink.now ts c.give_blocks_of.new.sink) (told_leads ls ++ token_of y.token ∷ [])) (sym (keyless_leads y c.requires.key)) (cut_longer (λ ts. g.S.yaml_token_sink_t.took c.args.sink.now ts c.give_blocks_of.new.sink) (told_leads xs) (token_of y.token ∷ []) e.1), e.2)
+    (c.stopped.ensures ∙ e.0, subst (λ (ls : List Token). IsCut (λ ts. g.S.yaml_token_sink_t.took c.args.sink.now ts c.give_any_blocks.new.sink) (told_leads ls ++ token_of y.token ∷ [])) (sym (keyless_leads y c.requires.key)) (cut_longer (λ ts. g.S.yaml_token_sink_t.took c.args.sink.now ts c.give_any_blocks.new.sink) (told_leads xs) (token_of y.token ∷ []) e.1), e.2)

@@ -9,17 +9,15 @@ use Rattle.yaml_scan.proofs.sink.give_leads.Goals as goal
 
 pub returns-in-Ok : goal.returns-in-Ok
 returns-in-Ok g c =
-    let y = c.args.group.now in
-    let m = y.token.start_mark in
-    let ks : List Token = if y.key then InsertedKey m ∷ [] else [] in
-    rw (← append_assoc (ends_at y.ends m) (starts_at y.opens m) ks, told_append (ends_at y.ends m ++ starts_at y.opens m) ks)
-    (gives_after g.S.yaml_token_sink_t.took g.met.S.yaml_token_sink_t.took_more c.args.sink.now c.give_blocks_of.new.sink c.give_key.new.sink _ (told_leads (ends_at y.ends m ++ starts_at y.opens m)) (told_leads ks) c.give_key.result c.in-Ok.ensures c.give_key.ensures)
+    let m = c.args.mark in
+    let ks : List Token = if c.args.key then InsertedKey m ∷ [] else [] in
+    rw (← append_assoc (ends_at c.args.ends m) (starts_at c.args.opens m) ks, told_append (ends_at c.args.ends m ++ starts_at c.args.opens m) ks)
+    (gives_after g.S.yaml_token_sink_t.took g.met.S.yaml_token_sink_t.took_more c.args.sink.now c.give_any_blocks.new.sink c.give_key.new.sink _ (told_leads (ends_at c.args.ends m ++ starts_at c.args.opens m)) (told_leads ks) c.give_key.result c.in-Ok.ensures c.give_key.ensures)
 
 pub returns-in-Err : goal.returns-in-Err
 returns-in-Err g c =
-    let y = c.args.group.now in
-    let m = y.token.start_mark in
-    let ks : List Token = if y.key then InsertedKey m ∷ [] else [] in
+    let m = c.args.mark in
+    let ks : List Token = if c.args.key then InsertedKey m ∷ [] else [] in
     let e = c.in-Err.ensures in
-    rw (← append_assoc (ends_at y.ends m) (starts_at y.opens m) ks, told_append (ends_at y.ends m ++ starts_at y.opens m) ks)
-    (c.stopped.ensures ∙ e.0, cut_longer (λ ts. g.S.yaml_token_sink_t.took c.args.sink.now ts c.give_blocks_of.new.sink) (told_leads (ends_at y.ends m ++ starts_at y.opens m)) (told_leads ks) e.1, e.2)
+    rw (← append_assoc (ends_at c.args.ends m) (starts_at c.args.opens m) ks, told_append (ends_at c.args.ends m ++ starts_at c.args.opens m) ks)
+    (c.stopped.ensures ∙ e.0, cut_longer (λ ts. g.S.yaml_token_sink_t.took c.args.sink.now ts c.give_any_blocks.new.sink) (told_leads (ends_at c.args.ends m ++ starts_at c.args.opens m)) (told_leads ks) e.1, e.2)

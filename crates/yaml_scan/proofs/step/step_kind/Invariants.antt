@@ -6,15 +6,6 @@ ghost-step_lexeme g a = g.before
 abbrev pub ghost-step_lexeme-2 : goal.ghost-step_lexeme-2
 ghost-step_lexeme-2 g a = g.before
 
-abbrev pub ghost-step_lexeme-3 : goal.ghost-step_lexeme-3
-ghost-step_lexeme-3 g a = g.before
-
-abbrev pub ghost-step_lexeme-4 : goal.ghost-step_lexeme-4
-ghost-step_lexeme-4 g a = g.before
-
-abbrev pub ghost-step_lexeme-5 : goal.ghost-step_lexeme-5
-ghost-step_lexeme-5 g a = g.before
-
 abbrev pub ghost-step_queued : goal.ghost-step_queued
 ghost-step_queued g a = g.before
 
@@ -38,3 +29,12 @@ ghost-step_marker-2 g a = g.before
 
 abbrev pub ghost-step_character : goal.ghost-step_character
 ghost-step_character g a = g.before
+
+abbrev pub ghost-step_scalar : goal.ghost-step_scalar
+ghost-step_scalar g a = g.before
+
+abbrev pub ghost-step_scalar-2 : goal.ghost-step_scalar-2
+ghost-step_scalar-2 g a = g.before
+
+abbrev pub ghost-step_scalar-3 : goal.ghost-step_scalar-3
+ghost-step_scalar-3 g a = g.before
