@@ -616,16 +616,25 @@ impl yaml_token_sink_t for values_t {
     ghost within_none = { λ _ _ _ _. tt };
 }
 
-/// The row of the values of an input.
-fn values_of(alloc: Global, input: &[u8]) -> Result<Vec<u8>, Fail> {
+/// The row of the values of an input, and whether there is a fault after them.
+fn values_within(alloc: Global, input: &[u8], limit: u32) -> Result<(Vec<u8>, bool), Fail>
+    requires least { 1 ≤ limit }
+    requires most { limit ≤ 65536 }
+{
     let mut sink = values_t {
         row: Vec::new(alloc),
     };
-    let fault = yaml_scan_to(alloc, input, ANY, 1024, &mut sink)?;
-    if fault.is_some() {
+    let fault = yaml_scan_to(alloc, input, ANY, limit, &mut sink)?;
+    Ok((sink.row, fault.is_some()))
+}
+
+/// The row of the values of an input without a fault.
+fn values_of(alloc: Global, input: &[u8]) -> Result<Vec<u8>, Fail> {
+    let (row, faulty) = values_within(alloc, input, 1024)?;
+    if faulty {
         return Err("fault".into());
     }
-    Ok(sink.row)
+    Ok(row)
 }
 
 /// Asserts for each text which of its scalars are lent.
@@ -654,7 +663,39 @@ fn scalars_of_a_line_are_lent(rt: HostRuntime) -> Result<(), Fail> {
             (b"{\n  \"a\": b,\n  c: 'd'\n}\n", b".b|c|d|"),
             (b"a: \xC3\xA9\r\nb: c\n", b".\xC3\xA9|b|c|"),
             (b"- a:\n  b: c\n- d\n", b"a|b|c|d|"),
+            (b"a:\n  b: c\n  \"d\": 'e'\n f: g\nh: i\n", b".b|c|d|e|f|g|h|i|"),
+            (b"a: b\nc:\td\ne :  f\n", b".b|c|d|e|f|"),
             (b"a\n", b"."),
         ],
     )
+}
+
+/// A key in the column of a level may have as many bytes as the key limit, and no more.
+#[test]
+fn usual_key_ends_at_the_limit(rt: HostRuntime) -> Result<(), Fail> {
+    let (row, faulty) = values_within(rt.alloc(), b"a: b\ncdef: g\n", 4)?;
+    assert_eq!(rt; row.as_slice(), b".b|cdef|g|".as_slice());
+    assert!(rt; !faulty);
+    let (row, faulty) = values_within(rt.alloc(), b"a: b\ncdef: g\n", 3)?;
+    assert_eq!(rt; row.as_slice(), b".b|".as_slice());
+    assert!(rt; faulty);
+    Ok(())
+}
+
+/// The fault of the reader comes before a key or a value that ends fewer than eight characters before it, and after one
+/// that ends earlier.
+#[test]
+fn usual_scalars_end_before_the_readers_fault(rt: HostRuntime) -> Result<(), Fail> {
+    let rows: [(&[u8], &[u8]); 4] = [
+        (b"a: b\ncd: eeeeee\xFF", b".b|"),
+        (b"a: b\ncd: eeeeeee\xFF", b".b|cd|"),
+        (b"a: \"b\" #ccccc\xFF", b"."),
+        (b"a: \"b\" #cccccc\xFF", b".b|"),
+    ];
+    for (text, want) in rows {
+        let (row, faulty) = values_within(rt.alloc(), text, 1024)?;
+        assert_eq!(rt; row.as_slice(), want, "{text:?}");
+        assert!(rt; faulty);
+    }
+    Ok(())
 }

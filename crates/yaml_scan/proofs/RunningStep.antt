@@ -31,3 +31,5 @@ pub mod StepHanded
 pub mod WaitingLaid
 -- A scalar that stands in the text is laid as the token that it is.
 pub mod LentTokens
+-- A key in the column of a level, and a value, are laid where nothing is queued.
+pub mod UsualLaid

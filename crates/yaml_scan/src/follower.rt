@@ -42,7 +42,7 @@ use yaml_text::{yaml_mark_t, yaml_text_t};
 
 /// Whether the queue is empty, and has room for two groups.
 #[inline(always)]
-fn has_room_for_two(queue: &queue_t) -> bool
+pub(crate) fn has_room_for_two(queue: &queue_t) -> bool
     ensures empty { result ≡ true → queue.now.groups.items ≡ [] }
     ensures room { result ≡ true → 1 < deque_capacity queue.now.groups }
 {

@@ -37,7 +37,7 @@ use crate::session::is_last;
 use crate::settled::is_settled;
 use crate::sink::{count_of, give, give_group, has_room_for, said_len, yaml_token_sink_t};
 use crate::state::{new_state, state_t};
-use crate::step::step_to;
+use crate::step::{step_apart, step_to};
 use crate::stop::{fault_at, stop_t, stopped};
 use std::alloc::{AllocError, Global};
 use yaml_text::{
@@ -61,7 +61,7 @@ fn send_or_settle<S: yaml_token_sink_t>(
 {
     let done = state.layout.queue.done;
     'steps: while !is_settled(state) {
-        step_to::<true, S>(text, state, sink)?;
+        step_apart(text, state, sink)?;
         if state.layout.queue.done > done {
             return Ok(false);
         }
@@ -257,6 +257,7 @@ pub fn yaml_scan_next_to<S: yaml_token_sink_t>(
 }
 
 /// Makes steps until the head of the queue is the next token. The groups of steps that need not wait go to the sink.
+#[inline(always)]
 fn settle_to<S: yaml_token_sink_t>(
     text: &yaml_text_t,
     state: &mut state_t,
@@ -315,6 +316,7 @@ pub(crate) fn give_next<S: yaml_token_sink_t>(
 }
 
 /// Gives the tokens of a scanner that has made the first step to a sink, up to the stream end.
+#[inline(always)]
 fn give_rest<S: yaml_token_sink_t>(
     text: &yaml_text_t,
     state: &mut state_t,
@@ -341,6 +343,7 @@ fn give_rest<S: yaml_token_sink_t>(
 }
 
 /// Gives the tokens of a new scanner to a sink, up to the stream end.
+#[inline(always)]
 fn give_all<S: yaml_token_sink_t>(
     state: &mut state_t,
     input: &[u8],

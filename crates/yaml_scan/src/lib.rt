@@ -17,6 +17,7 @@ mod layout;
 mod lend;
 mod lent;
 mod levels;
+mod lines;
 mod met;
 mod near;
 mod parser;

@@ -178,7 +178,12 @@ fn depth_at(slots: &slots_t, in_flow: bool) -> u64
 
 /// What is kept of a lexeme of this step that starts at a mark, if it is a candidate.
 #[inline(always)]
-fn new_candidate(step: u64, start: yaml_mark_t, in_flow: bool, level: Option<u64>) -> candidate_t
+pub(crate) fn new_candidate(
+    step: u64,
+    start: yaml_mark_t,
+    in_flow: bool,
+    level: Option<u64>,
+) -> candidate_t
     ensures { result ≡ record { step = step; start = start; required = is_level in_flow level start.column } }
 {
     candidate_t {

@@ -27,6 +27,7 @@ use crate::laid::{
     check_reach, end_character, end_laid, end_queued, is_queued, laid_t, lay_alone, token_of,
 };
 use crate::lend::{end_scalar, goes_well, lay_lent, lent_of, may_be_lent};
+use crate::lines::lend_usual;
 use crate::met::met_t;
 use crate::read::read_t;
 use crate::sink::{has_room_for_both, no_sink_t, said_len, yaml_token_sink_t};
@@ -341,7 +342,9 @@ fn step_scalar<
         S.may_refuse result }
     ensures within { OnOk result (S.within sink.old → S.within sink.new) }
 {
-    if DIRECT && may_be_lent::<QUOTED, IN_FLOW>(state) {
+    if has_room_for_both::<DIRECT, S>(sink, &state.layout.levels, 0)
+        && may_be_lent::<QUOTED, IN_FLOW>(state)
+    {
         step_lent::<R, IN_FLOW, S>(text, state, sink)
     } else {
         step_lexeme::<R, IN_FLOW, DIRECT, S>(text, state, sink)
@@ -520,6 +523,32 @@ fn step_kind<const IN_FLOW: bool, const DIRECT: bool, S: yaml_token_sink_t>(
     }
 }
 
+/// Passes the gap, and returns the kind of the lexeme after it. Stops if a candidate is lost there, or if no lexeme
+/// begins there.
+#[inline(always)]
+fn pass_gap<const IN_FLOW: bool>(
+    text: &yaml_text_t,
+    state: &mut state_t,
+) -> Result<yaml_lexeme_kind_t, stop_t>
+    ghost before: { List Laid }
+    requires can { CanStep before (scanner_of text.now state.old) }
+    requires flow { IN_FLOW ≡ nat_lt 0 (vec_len state.old.slots.outer) }
+    ensures { MatchResult result (λ kind. Comes before (scanner_of text.now state.new) IN_FLOW kind
+        × Stays (scanner_of text.now state.old) (scanner_of text.now state.new))
+        (λ stop. Refuses before (scanner_of text.now state.old) (scanner_of text.now state.new) stop) }
+{
+    let gap_end = gap_end(text, state.reach, IN_FLOW, state.allowed);
+    state.gap_end = gap_end;
+    let root = root_at(&state.slots.outer, state.slots.top, IN_FLOW);
+    if is_lost(root, IN_FLOW, state.limit, gap_end) {
+        return Err(stop_in_gap(text, state));
+    }
+    match kind_at(text, gap_end, IN_FLOW) {
+        Some(kind) => Ok(kind),
+        None => Err(stop_without_kind(text, state)),
+    }
+}
+
 /// Makes a step, inside a flow collection or outside, where columns count.
 #[inline(never)]
 fn step_at<const IN_FLOW: bool, const DIRECT: bool, S: yaml_token_sink_t>(
@@ -535,15 +564,101 @@ fn step_at<const IN_FLOW: bool, const DIRECT: bool, S: yaml_token_sink_t>(
         S.may_refuse result }
     ensures within { OnOk result (S.within sink.old → S.within sink.new) }
 {
-    let gap_end = gap_end(text, state.reach, IN_FLOW, state.allowed);
-    state.gap_end = gap_end;
-    let root = root_at(&state.slots.outer, state.slots.top, IN_FLOW);
-    if is_lost(root, IN_FLOW, state.limit, gap_end) {
-        return Err(stop_in_gap(text, state));
+    match pass_gap::<IN_FLOW>(text, state) {
+        Ok(kind) => step_kind::<IN_FLOW, DIRECT, S>(text, state, sink, kind),
+        Err(stop) => Err(stopped(stop)),
     }
-    match kind_at(text, gap_end, IN_FLOW) {
-        Some(kind) => step_kind::<IN_FLOW, DIRECT, S>(text, state, sink, kind),
-        None => Err(stop_without_kind(text, state)),
+}
+
+/// Makes the step of a plain or quoted scalar outside flow collections. Usual ones are tried first.
+#[inline(always)]
+fn step_usual<R: yaml_reader_t, const QUOTED: bool, S: yaml_token_sink_t>(
+    text: &yaml_text_t,
+    state: &mut state_t,
+    sink: &mut S,
+) -> Result<(), stop_t>
+    ghost before: { List Laid }
+    requires comes { Comes before (scanner_of text.now state.old) false R.KIND }
+    requires candidate { is_candidate_kind R.KIND ≡ true }
+    requires stays { is_flow_start R.KIND ≡ false }
+    ensures steps { StepsTo before (scanner_of text.now state.old) (scanner_of text.now state.new) true
+        (λ tokens. S.took sink.old tokens sink.new)
+        S.may_refuse result }
+    ensures within { OnOk result (S.within sink.old → S.within sink.new) }
+{
+    if !may_be_lent::<QUOTED, false>(state)
+        || !has_room_for_both::<true, S>(sink, &state.layout.levels, 0)
+    {
+        return step_lexeme::<R, false, true, S>(text, state, sink);
+    }
+    match lend_usual::<R, S>(text, state, sink) {
+        Some(made) => return made,
+        None => {}
+    }
+    if QUOTED {
+        return step_lent::<R, false, S>(text, state, sink);
+    }
+    match lend::<R, false, S>(text, state, sink) {
+        Some(made) => made,
+        None => step_lexeme::<R, false, true, S>(text, state, sink),
+    }
+}
+
+/// Makes the step of a lexeme of any kind, after the gap, outside flow collections.
+#[inline(never)]
+fn step_other<S: yaml_token_sink_t>(
+    text: &yaml_text_t,
+    state: &mut state_t,
+    sink: &mut S,
+    kind: yaml_lexeme_kind_t,
+) -> Result<(), stop_t>
+    ghost before: { List Laid }
+    requires { Comes before (scanner_of text.now state.old) false kind }
+    ensures steps { StepsTo before (scanner_of text.now state.old) (scanner_of text.now state.new) true
+        (λ tokens. S.took sink.old tokens sink.new)
+        S.may_refuse result }
+    ensures within { OnOk result (S.within sink.old → S.within sink.new) }
+{
+    step_kind::<false, true, S>(text, state, sink, kind)
+}
+
+/// Makes a step outside flow collections, whose groups go straight to the sink if they need not wait. It is part of the
+/// loop that makes steps, and so are the steps of the common kinds. Others have a function of their own.
+#[inline(always)]
+fn step_block<S: yaml_token_sink_t>(
+    text: &yaml_text_t,
+    state: &mut state_t,
+    sink: &mut S,
+) -> Result<(), stop_t>
+    ghost before: { List Laid }
+    requires can { CanStep before (scanner_of text.now state.old) }
+    requires flow { false ≡ nat_lt 0 (vec_len state.old.slots.outer) }
+    ensures steps { StepsTo before (scanner_of text.now state.old) (scanner_of text.now state.new) true
+        (λ tokens. S.took sink.old tokens sink.new)
+        S.may_refuse result }
+    ensures within { OnOk result (S.within sink.old → S.within sink.new) }
+{
+    match pass_gap::<false>(text, state) {
+        Ok(kind) => match kind {
+            yaml_lexeme_kind_t::PLAIN => step_usual::<plain_reader_t, false, S>(text, state, sink),
+            yaml_lexeme_kind_t::SINGLE_QUOTED => {
+                step_usual::<quoted_reader_t<true>, true, S>(text, state, sink)
+            }
+            yaml_lexeme_kind_t::DOUBLE_QUOTED => {
+                step_usual::<quoted_reader_t<false>, true, S>(text, state, sink)
+            }
+            yaml_lexeme_kind_t::BLOCK_ENTRY => {
+                step_character::<false, true, S>(text, state, sink, yaml_lexeme_kind_t::BLOCK_ENTRY)
+            }
+            yaml_lexeme_kind_t::LITERAL => {
+                step_lexeme::<block_reader_t<false>, false, true, S>(text, state, sink)
+            }
+            yaml_lexeme_kind_t::FOLDED => {
+                step_lexeme::<block_reader_t<true>, false, true, S>(text, state, sink)
+            }
+            _ => step_other::<S>(text, state, sink, kind),
+        },
+        Err(stop) => Err(stopped(stop)),
     }
 }
 
@@ -562,10 +677,55 @@ pub(crate) fn step_to<const DIRECT: bool, S: yaml_token_sink_t>(
         S.may_refuse result }
     ensures within { OnOk result (S.within sink.old → S.within sink.new) }
 {
-    if state.slots.outer.is_empty() {
-        step_at::<false, DIRECT, S>(text, state, sink)
+    if !state.slots.outer.is_empty() {
+        return step_at::<true, DIRECT, S>(text, state, sink);
+    }
+    if DIRECT {
+        step_block::<S>(text, state, sink)
     } else {
-        step_at::<true, DIRECT, S>(text, state, sink)
+        step_at::<false, DIRECT, S>(text, state, sink)
+    }
+}
+
+/// Makes a step as `step_block` does. It is a function of its own, for callers that do more than make steps.
+#[inline(never)]
+fn step_block_apart<S: yaml_token_sink_t>(
+    text: &yaml_text_t,
+    state: &mut state_t,
+    sink: &mut S,
+) -> Result<(), stop_t>
+    ghost before: { List Laid }
+    requires can { CanStep before (scanner_of text.now state.old) }
+    requires flow { false ≡ nat_lt 0 (vec_len state.old.slots.outer) }
+    ensures steps { StepsTo before (scanner_of text.now state.old) (scanner_of text.now state.new) true
+        (λ tokens. S.took sink.old tokens sink.new)
+        S.may_refuse result }
+    ensures within { OnOk result (S.within sink.old → S.within sink.new) }
+{
+    step_block::<S>(text, state, sink)
+}
+
+/// Makes a step as `step_to` does whose groups go straight to the sink, by a call. Where a block collection is open and
+/// nothing is queued, most steps are those of common kinds.
+#[inline(always)]
+pub(crate) fn step_apart<S: yaml_token_sink_t>(
+    text: &yaml_text_t,
+    state: &mut state_t,
+    sink: &mut S,
+) -> Result<(), stop_t>
+    ghost before: { List Laid }
+    requires { CanStep before (scanner_of text.now state.old) }
+    ensures steps { StepsTo before (scanner_of text.now state.old) (scanner_of text.now state.new) true
+        (λ tokens. S.took sink.old tokens sink.new)
+        S.may_refuse result }
+    ensures within { OnOk result (S.within sink.old → S.within sink.new) }
+{
+    if !state.slots.outer.is_empty() {
+        step_at::<true, true, S>(text, state, sink)
+    } else if state.layout.levels.is_empty() || !state.layout.queue.groups.is_empty() {
+        step_at::<false, true, S>(text, state, sink)
+    } else {
+        step_block_apart::<S>(text, state, sink)
     }
 }
 

@@ -1,5 +1,6 @@
 -- What the tests of kinds have to do with one another: a value is no candidate, and so on.
-use Rattle.std.proofs.Common.{◌≡◌, Bool, true, false, arith}
+use Rattle.std.proofs.Common.{◌≡◌, ℕ, Bool, true, false, arith}
+use Rattle.yaml_scan.specs.Allowed.{allows}
 use Rattle.yaml_scan.specs.Kind.{Kind, is_key, is_value, is_plain, is_stream_end, is_block_entry, is_candidate_kind}
 use Rattle.yaml_scan.specs.Kind.{is_flow_start, is_flow_end, closes_all, invites_key}
 use Rattle.yaml_scan.specs.Levels.{opens_level}
@@ -10,6 +11,13 @@ value_not_candidate k e = grind arith
 
 pub value_not_closer : (k : Kind) → is_value k ≡ true → closes_all k ≡ false
 value_not_closer k e = grind arith
+
+pub value_no_end : (k : Kind) → is_value k ≡ true → is_flow_end k ≡ false
+value_no_end k e = grind arith
+
+-- after a `:` that completes something no key is allowed
+pub value_allows_none : (k : Kind) (n : ℕ) → is_value k ≡ true → false ≡ allows k n false false
+value_allows_none k n e = grind arith
 
 -- a `:` that completes something opens no level
 pub value_opens_nothing : (k : Kind) → is_value k ≡ true → opens_level k false ≡ false

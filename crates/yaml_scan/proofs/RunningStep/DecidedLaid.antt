@@ -42,7 +42,7 @@ use Rattle.yaml_scan.proofs.RunningStep.StepPut.{IsPut, put_advances}
 use Rattle.yaml_scan.proofs.RunningStep.TwoLaid.{allows_same, and_not, between_of, lays_two, met_after, new_after, reach_later, read_place, unsettled}
 use Rattle.yaml_scan.proofs.RunningStep.StepTests.{can_put}
 
-live_kept : (limit : ℕ) (m : yaml_mark_t) (h : Held) → is_live limit m h ≡ true → lost_held limit m (Some h) ≡ None
+pub live_kept : (limit : ℕ) (m : yaml_mark_t) (h : Held) → is_live limit m h ≡ true → lost_held limit m (Some h) ≡ None
 live_kept limit m h e = rw (e, and_not h.required) refl
 
 -- LEVELS

@@ -24,7 +24,7 @@ use Rattle.yaml_scan.specs.SourceOf.{source_of}
 use Rattle.yaml_scan.specs.Step.{gap_end_of, place_after, problem_of, replaces}
 use Rattle.yaml_scan.specs.inside.Handed.{IsLaidAs}
 use Rattle.yaml_scan.specs.inside.Queue.{begins_with_end, pending}
-use Rattle.yaml_scan.specs.inside.Scanning.{AdvancesTwice, CanLayAll, CanPut, HoldsWith, IsMet, LaysTwo, Met, Needs, counted, met_in}
+use Rattle.yaml_scan.specs.inside.Scanning.{AdvancesTwice, CanLayAll, CanPut, CanRead, HoldsWith, IsMet, LaysTwo, Met, Needs, counted, met_in}
 use Rattle.yaml_scan.specs.inside.Slots.{Held, completed_held, held, is_level, lost_held, root_of}
 use Rattle.yaml_scan.specs.inside.StepFaults.{IsRefused}
 use Rattle.yaml_scan.specs.inside.TextReads.{IsDecider, IsRead}
@@ -59,6 +59,16 @@ clears_none false k a e = rw (decider_is_value k e) refl
 pub allows_same : (f : Bool) (k : Kind) (n : ℕ) (none b : Bool) → decides f k ≡ true → allows k n none false ≡ allows k n none b
 allows_same f k n none b e = rw (decider_not_plain f k e) refl
 
+-- where what may be a key ends
+pub read_ends : (H : List Laid) (s : Scanner) (r : met_t) (x : yaml_lexeme_t) → CanRead H s r → is_candidate_kind r.kind ≡ true → IsRead s.text.chars r.kind r.context.depth r.context.level (gap_end_of (source_of s.text.chars) H) x → (p : ℕ) × IsMarkOf s.text.chars x.reach p
+unfolding laid
+read_ends H s r x c q read =
+    let left : List ℕ = filter (stays r.in_flow r.kind r.new.start) (reverse s.layout.levels.items) in (
+      _,
+      place_then H (s.made + 1) s c.can.holds c.can.running (met_in s r) c.met r.in_flow c.is_new.flow r.new.start c.is_new.start (reverse left) (reverse-reverse left) r.context.level (c.is_new.is_greatest ∙ ap greatest_level (sym (reverse-reverse left))) r.context.depth c.depth x read
+          (candidate_not_end r.kind q),
+    )
+
 -- a lexeme that was met and read
 module _ (H : List Laid) (s : Scanner) (r : met_t) (x : yaml_lexeme_t) (c : CanLayAll H s r x) (q : is_candidate_kind r.kind ≡ true) where
   abbrev cs : List ℕ
@@ -75,12 +85,7 @@ module _ (H : List Laid) (s : Scanner) (r : met_t) (x : yaml_lexeme_t) (c : CanL
 
   -- where it ends
   pub read_place : (p : ℕ) × IsMarkOf s.text.chars x.reach p
-  unfolding laid
-  read_place = (
-    _,
-    place_then H (s.made + 1) s c.can.can.holds c.can.can.running (met_in s r) c.can.met r.in_flow c.can.is_new.flow r.new.start c.can.is_new.start (reverse left) (reverse-reverse left) r.context.level level_is r.context.depth c.can.depth x read
-        (candidate_not_end r.kind q),
-  )
+  read_place = read_ends H s r x c.can q read
 
   pub reach_later : IsNotBefore r.new.start x.reach
   unfolding laid

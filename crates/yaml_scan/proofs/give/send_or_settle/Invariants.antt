@@ -4,8 +4,8 @@ use Rattle.yaml_scan.specs.inside.Scanning.{course_of, history}
 use Rattle.yaml_scan.proofs.RunningCalls.StepsMade.{Goes}
 use Rattle.yaml_scan.proofs.give.send_or_settle.Given as goal
 
-abbrev pub ghost-step_to : goal.ghost-step_to
-ghost-step_to g a = history (scanner_of a.text.now a.state.now)
+abbrev pub ghost-step_apart : goal.ghost-step_apart
+ghost-step_apart g a = history (scanner_of a.text.now a.state.now)
 
 abbrev pub invariant-steps : goal.invariant-steps
 invariant-steps g l = Goes (scanner_of l.fn.text l.fn.state) (scanner_of l.text l.state) × g.S.yaml_token_sink_t.took l.fn.sink [] l.sink
