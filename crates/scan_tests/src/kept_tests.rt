@@ -663,7 +663,10 @@ fn scalars_of_a_line_are_lent(rt: HostRuntime) -> Result<(), Fail> {
             (b"{\n  \"a\": b,\n  c: 'd'\n}\n", b".b|c|d|"),
             (b"a: \xC3\xA9\r\nb: c\n", b".\xC3\xA9|b|c|"),
             (b"- a:\n  b: c\n- d\n", b"a|b|c|d|"),
-            (b"a:\n  b: c\n  \"d\": 'e'\n f: g\nh: i\n", b".b|c|d|e|f|g|h|i|"),
+            (
+                b"a:\n  b: c\n  \"d\": 'e'\n f: g\nh: i\n",
+                b".b|c|d|e|f|g|h|i|",
+            ),
             (b"a: b\nc:\td\ne :  f\n", b".b|c|d|e|f|"),
             (b"a\n", b"."),
         ],
