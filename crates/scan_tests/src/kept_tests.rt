@@ -1,5 +1,5 @@
 //! Calls of a kept parser, which stays in its place.
-ghost use Rattle.std.specs.Prelude.{◌≡◌};
+ghost use Rattle.std.specs.Prelude.{◌≡◌, ◌≤◌};
 ghost use Rattle.yaml_scan.specs.Parser.{Parser};
 ghost use Rattle.yaml_scan.specs.inside.Kept.{IsKept};
 
