@@ -9,7 +9,7 @@ use std::process::Abort;
 use std::test::Fail;
 use yaml_scan::{
     yaml_kept_parser_t, yaml_kept_peek, yaml_kept_scan_to, yaml_lent_scalar_t, yaml_parser_peek,
-    yaml_parser_scan, yaml_parser_t, yaml_scan_to, yaml_token_sink_t,
+    yaml_parser_scan, yaml_parser_t, yaml_scan_all_limit, yaml_scan_to, yaml_token_sink_t,
 };
 use yaml_text::{
     unnamed_yaml_token_t_data, yaml_encoding_t, yaml_mark_t, yaml_scalar_style_t, yaml_token_t,
@@ -700,5 +700,60 @@ fn usual_scalars_end_before_the_readers_fault(rt: HostRuntime) -> Result<(), Fai
         assert_eq!(rt; row.as_slice(), want, "{text:?}");
         assert!(rt; faulty);
     }
+    Ok(())
+}
+
+/// A scalar in flow is lent with what comes right after it, or alone if it is no key. Nothing is lent while a bracket may
+/// become a key, or where the scalar itself may until its line ends.
+#[test]
+fn scalars_in_flow_are_lent(rt: HostRuntime) -> Result<(), Fail> {
+    expect_values(
+        &rt,
+        &[
+            (b"--- {a: b, \"c\": 'd', e, \"f\" }\n", b"a|b|c|d|e|."),
+            (b"--- [a, [b, 'c'], {}, \"d\"]\n", b"a|..d|"),
+            (b"--- [\"a\" : b, 'c'\n]\n", b".b|."),
+            (
+                b"- {\n    \"a\": 1, \"b\": [c, d],\n    e: \"f\" , g: h }\n",
+                b".1|b|c|d|e|f|g|h|",
+            ),
+            (b"--- {\"a\": \"b\": c}\n", b"a|.c|"),
+            (b"--- [a, \"b\\n\", 'c''d', e]\n", b"a|..e|"),
+            (b"--- [\xC3\xA9, b]\n", b"\xC3\xA9|b|"),
+        ],
+    )
+}
+
+/// The fault of the reader comes before a scalar in flow, or what comes right after it, that ends fewer than eight
+/// characters before it, and after one that ends earlier.
+#[test]
+fn scalars_in_flow_end_before_the_readers_fault(rt: HostRuntime) -> Result<(), Fail> {
+    let rows: [(&[u8], &[u8]); 7] = [
+        (b"--- [a,bbbbbbb\xFF", b""),
+        (b"--- [a,bbbbbbbb\xFF", b"a|"),
+        (b"--- {a: b,cccccc\xFF", b"a|"),
+        (b"--- {a: b,ccccccc\xFF", b"a|."),
+        (b"--- {a: b,cccccccc\xFF", b"a|b|"),
+        (b"--- {a: \"b\" #ccccc\xFF", b"a|"),
+        (b"--- {a: \"b\" #cccccc\xFF", b"a|b|"),
+    ];
+    for (text, want) in rows {
+        let (row, faulty) = values_within(rt.alloc(), text, 1024)?;
+        assert_eq!(rt; row.as_slice(), want, "{text:?}");
+        assert!(rt; faulty);
+    }
+    Ok(())
+}
+
+/// A key in flow may have as many bytes as the key limit. With one more it is a scalar without a key.
+#[test]
+fn key_in_flow_ends_at_the_limit(rt: HostRuntime) -> Result<(), Fail> {
+    let text = b"--- [abcd: e]";
+    let (tokens, fault) = yaml_scan_all_limit(rt.alloc(), text, ANY, 4)?;
+    assert_eq!(rt; tokens.len(), 9);
+    assert!(rt; fault.is_none());
+    let (tokens, fault) = yaml_scan_all_limit(rt.alloc(), text, ANY, 3)?;
+    assert_eq!(rt; tokens.len(), 8);
+    assert!(rt; fault.is_none());
     Ok(())
 }

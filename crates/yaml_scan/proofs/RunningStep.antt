@@ -33,3 +33,5 @@ pub mod WaitingLaid
 pub mod LentTokens
 -- A key in the column of a level, and a value, are laid where nothing is queued.
 pub mod UsualLaid
+-- A scalar in flow that is met where nothing is queued is laid with what comes right after it, or alone.
+pub mod FlowLaid

@@ -1,5 +1,5 @@
 //! Scalars that are lent to a sink: a step lays one that stands in the text as it is, if nothing of that has to wait.
-ghost use Rattle.std.specs.Prelude.{◌≡◌, ◌+◌, ◌<◌, ◌≤◌, ◌++◌, ◌∷◌, [], List, None, IfSome, OnOk, true, false, length};
+ghost use Rattle.std.specs.Prelude.{◌≡◌, ◌+◌, ◌<◌, ◌≤◌, ◌&&◌, ◌++◌, ◌∷◌, [], List, None, IfSome, OnOk, true, false, length};
 ghost use Rattle.std.specs.Prelude.{nat_lt, vec_len, ℕ};
 ghost use Rattle.yaml_text.specs.Text.{Text};
 ghost use Rattle.yaml_text.specs.Token.{TokenData, token_of};
@@ -46,18 +46,16 @@ pub(crate) fn lent_of<'a>(start: yaml_mark_t, part: &yaml_part_t<'a>) -> yaml_le
     }
 }
 
-/// Whether the scalar after the gap may be lent: nothing is queued, and it is not likely to have to wait, or to go on in
-/// a line after its first. Outside flow a scalar in quotes after `- ` or `? ` is seldom a key, and then it waits for the
-/// end of its line. A plain scalar where no level is open is seldom a key, and then it goes on up to a marker.
+/// Whether the scalar after the gap may be lent, outside flow collections: nothing is queued, and it is not likely to
+/// have to wait, or to go on in a line after its first. A scalar in quotes after `- ` or `? ` is seldom a key, and then it
+/// waits for the end of its line. A plain scalar where no level is open is seldom a key, and then it goes on up to a
+/// marker.
 #[inline(always)]
-pub(crate) fn may_be_lent<const QUOTED: bool, const IN_FLOW: bool>(state: &state_t) -> bool
+pub(crate) fn may_be_lent<const QUOTED: bool>(state: &state_t) -> bool
     ensures { result ≡ true → state.now.layout.queue.groups.items ≡ [] }
 {
     if !state.layout.queue.groups.is_empty() {
         return false;
-    }
-    if IN_FLOW {
-        return true;
     }
     if QUOTED {
         !(state.allowed && state.reach.index < state.gap_end.index)
@@ -80,9 +78,8 @@ pub(crate) fn goes_well(state: &state_t, met: met_t, reach: yaml_mark_t) -> bool
 
 /// Whether the lexeme of a step, which was read up to a mark, may still become a key there.
 #[inline(always)]
-fn is_kept(state: &state_t, read: read_t) -> bool
-    ensures { result ≡ false → read.met.allowed ≡ true
-        → is_live state.now.limit read.reach read.met.new ≡ false }
+pub(crate) fn is_kept(state: &state_t, read: read_t) -> bool
+    ensures { result ≡ (read.met.allowed && is_live state.now.limit read.reach read.met.new) }
 {
     read.met.allowed && read.met.new.is_live(state.limit, read.reach)
 }

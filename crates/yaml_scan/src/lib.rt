@@ -6,6 +6,7 @@ mod batch;
 mod calls;
 mod decider;
 mod depth;
+mod flow;
 mod follower;
 mod give;
 mod groups;

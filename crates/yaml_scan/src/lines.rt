@@ -32,7 +32,7 @@ use crate::met::met_t;
 use crate::read::read_t;
 use crate::sink::{has_room_for_both, yaml_token_sink_t};
 use crate::source::part_at;
-use crate::state::{new_candidate, state_t};
+use crate::state::{depth_at, new_candidate, state_t};
 use crate::stop::stop_t;
 use yaml_lexeme::{yaml_context_t, yaml_lexeme_kind_t, yaml_reader_t};
 use yaml_text::{yaml_mark_t, yaml_text_t};
@@ -40,31 +40,34 @@ use yaml_text::{yaml_mark_t, yaml_text_t};
 /// What the scalar after the gap is read and laid with, if nothing is queued and it closes no level. `level` is the
 /// greatest one.
 #[inline(always)]
-fn usual_met(
+pub(crate) fn usual_met<const IN_FLOW: bool>(
     _text: &yaml_text_t,
     state: &state_t,
     kind: yaml_lexeme_kind_t,
     level: Option<u64>,
 ) -> met_t
     ghost before: { List Laid }
-    requires comes { Comes before (scanner_of _text.now state.now) false kind }
+    requires comes { Comes before (scanner_of _text.now state.now) IN_FLOW kind }
     requires candidate { is_candidate_kind kind ≡ true }
     requires alone { groups_in (scanner_of _text.now state.now) ≡ [] }
-    requires room { HasRoom (scanner_of _text.now state.now) false kind }
-    requires kept { closing false kind state.now.gap_end (reverse state.now.layout.levels.items) ≡ None }
+    requires room { HasRoom (scanner_of _text.now state.now) IN_FLOW kind }
+    requires kept { closing IN_FLOW kind state.now.gap_end (reverse state.now.layout.levels.items) ≡ None }
     requires level { level ≡ greatest_level (reverse state.now.layout.levels.items) }
     ensures can { CanRead before (scanner_of _text.now state.now) result }
     ensures kind { result.kind ≡ kind }
-    ensures flow { result.in_flow ≡ false }
-    ensures allowed { result.allowed ≡ allowed_in (scanner_of _text.now state.now) false }
+    ensures flow { result.in_flow ≡ IN_FLOW }
+    ensures allowed { result.allowed ≡ allowed_in (scanner_of _text.now state.now) IN_FLOW }
     ensures start { result.new.start ≡ state.now.gap_end }
 {
     met_t {
         kind,
-        in_flow: false,
-        allowed: is_key_allowed(state.allowed, false, state.reach, state.gap_end),
-        new: new_candidate(state.made + 1, state.gap_end, false, level),
-        context: yaml_context_t { depth: 0, level },
+        in_flow: IN_FLOW,
+        allowed: is_key_allowed(state.allowed, IN_FLOW, state.reach, state.gap_end),
+        new: new_candidate(state.made + 1, state.gap_end, IN_FLOW, level),
+        context: yaml_context_t {
+            depth: depth_at(&state.slots, IN_FLOW),
+            level,
+        },
     }
 }
 
@@ -146,7 +149,7 @@ fn lend_key<R: yaml_reader_t, S: yaml_token_sink_t>(
     ensures within { IfSome result (λ r. OnOk r (S.within sink.old → S.within sink.new)) }
     ensures none { result ≡ None → (state.new ≡ state.old) × (sink.new ≡ sink.old) }
 {
-    let met = usual_met(text, state, R::KIND, level);
+    let met = usual_met::<false>(text, state, R::KIND, level);
     let part = part_at::<R>(text, state, met.context)?;
     let colon = decider_at(text, part.reach, false)?;
     let read = read_t {
@@ -220,7 +223,7 @@ fn lend_value<R: yaml_reader_t, S: yaml_token_sink_t>(
     ensures within { IfSome result (λ r. OnOk r (S.within sink.old → S.within sink.new)) }
     ensures none { result ≡ None → (state.new ≡ state.old) × (sink.new ≡ sink.old) }
 {
-    let met = usual_met(text, state, R::KIND, level);
+    let met = usual_met::<false>(text, state, R::KIND, level);
     let part = part_at::<R>(text, state, met.context)?;
     let read = read_t {
         met,

@@ -214,4 +214,22 @@ impl slots_t {
             self.awaited = 0;
         }
     }
+
+    /// Leaves the depth behind at what comes right after a scalar, if that is a flow end. It is no flow start, and there is
+    /// no candidate.
+    #[inline(always)]
+    pub(crate) fn leave_at(&mut self, kind: yaml_lexeme_kind_t)
+        requires start { is_flow_start kind ≡ false }
+        requires top { self.old.top ≡ None }
+        requires empty { self.old.not_simple_keys ≡ vec_len self.old.outer }
+        requires awaited { self.old.awaited ≡ 0 }
+        ensures outer { self.new.outer.items ≡ nested_outer kind self.old.outer.items None }
+        ensures top { self.new.top ≡ nested_top kind self.old.outer.items None }
+        ensures empty { self.new.not_simple_keys ≡ vec_len self.new.outer }
+        ensures awaited { self.new.awaited ≡ 0 }
+    {
+        if is_flow_end(kind) {
+            self.drop_candidate(kind, false);
+        }
+    }
 }

@@ -165,7 +165,7 @@ impl state_t {
 
 /// The flow depth. `in_flow`: it is above 0. Written so, the compiler knows whether it is if it knows `in_flow`.
 #[inline(always)]
-fn depth_at(slots: &slots_t, in_flow: bool) -> u64
+pub(crate) fn depth_at(slots: &slots_t, in_flow: bool) -> u64
     requires { in_flow ≡ nat_lt 0 (vec_len slots.now.outer) }
     ensures { result ≡ vec_len slots.now.outer }
 {

@@ -21,6 +21,7 @@ ghost use Rattle.yaml_scan.specs.Sink.{said_len};
 
 use crate::allowed::is_key_allowed;
 use crate::depth::is_flow_start;
+use crate::flow::lend_in_flow;
 use crate::follower::{follower_of, lay_followed};
 use crate::keys::is_lost;
 use crate::laid::{
@@ -258,28 +259,28 @@ fn step_lexeme<R: yaml_reader_t, const IN_FLOW: bool, const DIRECT: bool, S: yam
     }
 }
 
-/// Makes the step of a scalar of a reader's kind, and lends it to the sink, if the scalar stands in the text as it is,
-/// nothing of what the step lays has to wait, and the sink has room for that. Nothing is queued. Of any other scalar no
-/// step is made, and nothing is returned, unless the kind is refused.
+/// Makes the step of a scalar of a reader's kind outside flow collections, and lends it to the sink, if the scalar stands
+/// in the text as it is, nothing of what the step lays has to wait, and the sink has room for that. Nothing is queued. Of
+/// any other scalar no step is made, and nothing is returned, unless the kind is refused.
 #[inline(always)]
-fn lend<R: yaml_reader_t, const IN_FLOW: bool, S: yaml_token_sink_t>(
+fn lend<R: yaml_reader_t, S: yaml_token_sink_t>(
     text: &yaml_text_t,
     state: &mut state_t,
     sink: &mut S,
 ) -> Option<Result<(), stop_t>>
     ghost before: { List Laid }
-    requires comes { Comes before (scanner_of text.now state.old) IN_FLOW R.KIND }
+    requires comes { Comes before (scanner_of text.now state.old) false R.KIND }
     requires candidate { is_candidate_kind R.KIND ≡ true }
     requires stays { is_flow_start R.KIND ≡ false }
     requires alone { groups_in (scanner_of text.now state.old) ≡ [] }
     ensures steps { IfSome result (λ r. StepsTo before (scanner_of text.now state.old) (scanner_of text.now state.new) true
         (λ tokens. S.took sink.old tokens sink.new) S.may_refuse r) }
     ensures within { IfSome result (λ r. OnOk r (S.within sink.old → S.within sink.new)) }
-    ensures comes { result ≡ None → Comes before (scanner_of text.now state.new) IN_FLOW R.KIND
+    ensures comes { result ≡ None → Comes before (scanner_of text.now state.new) false R.KIND
         × Stays (scanner_of text.now state.old) (scanner_of text.now state.new) }
     ensures none { result ≡ None → sink.new ≡ sink.old }
 {
-    let met = match begin_step(text, state, IN_FLOW, R::KIND) {
+    let met = match begin_step(text, state, false, R::KIND) {
         Ok(met) => met,
         Err(stop) => return Some(Err(stopped(stop))),
     };
@@ -299,16 +300,16 @@ fn lend<R: yaml_reader_t, const IN_FLOW: bool, S: yaml_token_sink_t>(
     Some(end_scalar(state, sink, laid, &lent_of(met.new.start, &part)))
 }
 
-/// Makes the step of a scalar of a reader's kind while nothing is queued, and lends the scalar to the sink, if that may
-/// be; else the step of its lexeme.
+/// Makes the step of a scalar of a reader's kind outside flow collections while nothing is queued, and lends the scalar
+/// to the sink, if that may be; else the step of its lexeme.
 #[inline(never)]
-fn step_lent<R: yaml_reader_t, const IN_FLOW: bool, S: yaml_token_sink_t>(
+fn step_lent<R: yaml_reader_t, S: yaml_token_sink_t>(
     text: &yaml_text_t,
     state: &mut state_t,
     sink: &mut S,
 ) -> Result<(), stop_t>
     ghost before: { List Laid }
-    requires comes { Comes before (scanner_of text.now state.old) IN_FLOW R.KIND }
+    requires comes { Comes before (scanner_of text.now state.old) false R.KIND }
     requires candidate { is_candidate_kind R.KIND ≡ true }
     requires stays { is_flow_start R.KIND ≡ false }
     requires alone { groups_in (scanner_of text.now state.old) ≡ [] }
@@ -317,14 +318,41 @@ fn step_lent<R: yaml_reader_t, const IN_FLOW: bool, S: yaml_token_sink_t>(
         S.may_refuse result }
     ensures within { OnOk result (S.within sink.old → S.within sink.new) }
 {
-    match lend::<R, IN_FLOW, S>(text, state, sink) {
+    match lend::<R, S>(text, state, sink) {
         Some(made) => made,
-        None => step_lexeme::<R, IN_FLOW, true, S>(text, state, sink),
+        None => step_lexeme::<R, false, true, S>(text, state, sink),
+    }
+}
+
+/// Makes the step of a scalar of a reader's kind in flow while nothing is queued, and lends the scalar to the sink, if
+/// that may be; else the step of its lexeme.
+#[inline(always)]
+fn step_lent_in_flow<R: yaml_reader_t, S: yaml_token_sink_t>(
+    text: &yaml_text_t,
+    state: &mut state_t,
+    sink: &mut S,
+) -> Result<(), stop_t>
+    ghost before: { List Laid }
+    requires comes { Comes before (scanner_of text.now state.old) true R.KIND }
+    requires candidate { is_candidate_kind R.KIND ≡ true }
+    requires stays { is_flow_start R.KIND ≡ false }
+    requires alone { groups_in (scanner_of text.now state.old) ≡ [] }
+    ensures steps { StepsTo before (scanner_of text.now state.old) (scanner_of text.now state.new) true
+        (λ tokens. S.took sink.old tokens sink.new)
+        S.may_refuse result }
+    ensures within { OnOk result (S.within sink.old → S.within sink.new) }
+{
+    if !has_room_for_both::<true, S>(sink, &state.layout.levels, 0) {
+        return step_lexeme::<R, true, true, S>(text, state, sink);
+    }
+    match lend_in_flow::<R, S>(text, state, sink) {
+        Some(made) => made,
+        None => step_lexeme::<R, true, true, S>(text, state, sink),
     }
 }
 
 /// Makes the step of a plain or quoted scalar, of the kind of a reader. It is asked here whether it may be lent, so that
-/// one that is not pays for nothing else.
+/// one that is not pays for nothing else. In flow none is lent here: `step_flow` does that.
 #[inline(always)]
 fn step_scalar<
     R: yaml_reader_t,
@@ -342,13 +370,13 @@ fn step_scalar<
         S.may_refuse result }
     ensures within { OnOk result (S.within sink.old → S.within sink.new) }
 {
-    if has_room_for_both::<DIRECT, S>(sink, &state.layout.levels, 0)
-        && may_be_lent::<QUOTED, IN_FLOW>(state)
+    if IN_FLOW
+        || !has_room_for_both::<DIRECT, S>(sink, &state.layout.levels, 0)
+        || !may_be_lent::<QUOTED>(state)
     {
-        step_lent::<R, IN_FLOW, S>(text, state, sink)
-    } else {
-        step_lexeme::<R, IN_FLOW, DIRECT, S>(text, state, sink)
+        return step_lexeme::<R, IN_FLOW, DIRECT, S>(text, state, sink);
     }
+    step_lent::<R, S>(text, state, sink)
 }
 
 /// Makes the step of a lexeme that may be refused, of the kind of a reader. Its group goes into the queue, so one
@@ -586,7 +614,7 @@ fn step_usual<R: yaml_reader_t, const QUOTED: bool, S: yaml_token_sink_t>(
         S.may_refuse result }
     ensures within { OnOk result (S.within sink.old → S.within sink.new) }
 {
-    if !may_be_lent::<QUOTED, false>(state)
+    if !may_be_lent::<QUOTED>(state)
         || !has_room_for_both::<true, S>(sink, &state.layout.levels, 0)
     {
         return step_lexeme::<R, false, true, S>(text, state, sink);
@@ -596,9 +624,9 @@ fn step_usual<R: yaml_reader_t, const QUOTED: bool, S: yaml_token_sink_t>(
         None => {}
     }
     if QUOTED {
-        return step_lent::<R, false, S>(text, state, sink);
+        return step_lent::<R, S>(text, state, sink);
     }
-    match lend::<R, false, S>(text, state, sink) {
+    match lend::<R, S>(text, state, sink) {
         Some(made) => made,
         None => step_lexeme::<R, false, true, S>(text, state, sink),
     }
@@ -662,6 +690,38 @@ fn step_block<S: yaml_token_sink_t>(
     }
 }
 
+/// Makes a step inside a flow collection while nothing is queued, whose groups go straight to the sink if they need not
+/// wait.
+#[inline(never)]
+fn step_flow<S: yaml_token_sink_t>(
+    text: &yaml_text_t,
+    state: &mut state_t,
+    sink: &mut S,
+) -> Result<(), stop_t>
+    ghost before: { List Laid }
+    requires can { CanStep before (scanner_of text.now state.old) }
+    requires flow { true ≡ nat_lt 0 (vec_len state.old.slots.outer) }
+    requires alone { groups_in (scanner_of text.now state.old) ≡ [] }
+    ensures steps { StepsTo before (scanner_of text.now state.old) (scanner_of text.now state.new) true
+        (λ tokens. S.took sink.old tokens sink.new)
+        S.may_refuse result }
+    ensures within { OnOk result (S.within sink.old → S.within sink.new) }
+{
+    match pass_gap::<true>(text, state) {
+        Ok(kind) => match kind {
+            yaml_lexeme_kind_t::PLAIN => step_lent_in_flow::<plain_reader_t, S>(text, state, sink),
+            yaml_lexeme_kind_t::SINGLE_QUOTED => {
+                step_lent_in_flow::<quoted_reader_t<true>, S>(text, state, sink)
+            }
+            yaml_lexeme_kind_t::DOUBLE_QUOTED => {
+                step_lent_in_flow::<quoted_reader_t<false>, S>(text, state, sink)
+            }
+            _ => step_kind::<true, true, S>(text, state, sink, kind),
+        },
+        Err(stop) => Err(stopped(stop)),
+    }
+}
+
 /// Makes a step, or two if the next token needs both, and hands on their groups: straight to the sink if `DIRECT` and
 /// they need not wait, and else into the queue.
 #[inline(always)]
@@ -678,6 +738,9 @@ pub(crate) fn step_to<const DIRECT: bool, S: yaml_token_sink_t>(
     ensures within { OnOk result (S.within sink.old → S.within sink.new) }
 {
     if !state.slots.outer.is_empty() {
+        if DIRECT && state.layout.queue.groups.is_empty() {
+            return step_flow::<S>(text, state, sink);
+        }
         return step_at::<true, DIRECT, S>(text, state, sink);
     }
     if DIRECT {
@@ -721,6 +784,9 @@ pub(crate) fn step_apart<S: yaml_token_sink_t>(
     ensures within { OnOk result (S.within sink.old → S.within sink.new) }
 {
     if !state.slots.outer.is_empty() {
+        if state.layout.queue.groups.is_empty() {
+            return step_flow::<S>(text, state, sink);
+        }
         step_at::<true, true, S>(text, state, sink)
     } else if state.layout.levels.is_empty() || !state.layout.queue.groups.is_empty() {
         step_at::<false, true, S>(text, state, sink)

@@ -1,6 +1,6 @@
 -- A scalar that is met where nothing is queued, and that closes no level: a key in the column of a level is laid with the
 -- `:` after it, and a value alone. Levels and candidates stay as they are.
-use Rattle.std.proofs.Common.{◌≡◌, ℕ, ◌+◌, ◌<◌, ◌≤◌, not, Bool, true, false, List, [], ◌∷◌, ◌++◌, reverse, filter, length, Option, Some, None, refl, ap, sym, ◌∙◌, subst, arith, vec_len, ltb-false, le-leb, le-ltb}
+use Rattle.std.proofs.Common.{◌≡◌, ℕ, ◌+◌, ◌<◌, ◌≤◌, not, ◌&&◌, Bool, true, false, List, [], ◌∷◌, ◌++◌, reverse, filter, length, Option, Some, None, refl, ap, sym, ◌∙◌, subst, arith, vec_len, le-leb, le-ltb}
 use Rattle.std.specs.Prelude.{if◌then◌else◌, nat_lt}
 use Rattle.std.specs.VecDeque.{deque_capacity}
 use Rattle.std.proofs.lemmas.Bool.{false≢true}
@@ -47,10 +47,10 @@ use Rattle.yaml_scan.proofs.RunningStep.TwoLaid.{and_not, read_ends, read_place}
 
 -- WITHOUT CANDIDATES
 module _ (H : List Laid) (s : Scanner) (h : Holds H (s.made + 1) s) (ALONE : groups_in s ≡ []) where
-  none : (lowest s.slots.outer.items ≡ None) × (s.slots.top ≡ None)
+  pub none : (lowest s.slots.outer.items ≡ None) × (s.slots.top ≡ None)
   none = lowest_front s.slots.outer.items s.slots.top (none_at_all H (s.made + 1) s h ALONE)
 
-  none_waits : s.slots.awaited ≡ 0
+  pub none_waits : s.slots.awaited ≡ 0
   none_waits = h.keys.awaited ∙ ap held_step (none_at_all H (s.made + 1) s h ALONE)
 
 -- WITHIN A LEVEL
@@ -76,20 +76,19 @@ not_cleared false limit m top e = refl
 beside_itself : (s : Scanner) → Beside s s
 beside_itself s = record { text = refl; refusal = refl; near = refl; limit = refl; outer = refl; depth = refl; empty = refl; top = refl; awaited = refl; allowed = refl; levels = refl; groups = refl; done = refl; early = refl; early_mark = refl; reach = refl; gap_end = refl; taken = refl; made = refl }
 
-pub can_read : (H : List Laid) (s : Scanner) (k : Kind) → Comes H s false k → is_candidate_kind k ≡ true → groups_in s ≡ [] → HasRoom s false k → closing false k s.gap_end (reverse s.layout.levels.items) ≡ None
-    → (a : Bool) → a ≡ allowed_in s false → (l : Option ℕ) → l ≡ greatest_level (reverse s.layout.levels.items) → (new : Held) → new ≡ record { step = s.made + 1; start = s.gap_end; required = is_level false l s.gap_end.column }
-    → CanRead H s (record { kind = k; in_flow = false; allowed = a; new = new; context = record { depth = 0; level = l } })
-can_read H s k w Q ALONE room kept a A l L new N =
+pub can_read : (H : List Laid) (s : Scanner) (f : Bool) (k : Kind) → Comes H s f k → is_candidate_kind k ≡ true → groups_in s ≡ [] → HasRoom s f k → closing f k s.gap_end (reverse s.layout.levels.items) ≡ None
+    → (a : Bool) → a ≡ allowed_in s f → (l : Option ℕ) → l ≡ greatest_level (reverse s.layout.levels.items) → (new : Held) → new ≡ record { step = s.made + 1; start = s.gap_end; required = is_level f l s.gap_end.column }
+    → (d : ℕ) → d ≡ vec_len s.slots.outer → CanRead H s (record { kind = k; in_flow = f; allowed = a; new = new; context = record { depth = d; level = l } })
+can_read H s f k w Q ALONE room kept a A l L new N d D =
     let holds = w.passes.can.holds in
     let top = (none H s holds ALONE).1 in
-    let refused : refused_in s false k (allowed_in s false) ≡ None = not_refused (not (allowed_in s false)) _ k Q in
-    let cleared : cleared_in s false k (allowed_in s false) ≡ None = not_cleared _ s.limit s.gap_end s.slots.top top in
+    let refused : refused_in s f k (allowed_in s f) ≡ None = not_refused (not f && not (allowed_in s f)) _ k Q in
+    let cleared : cleared_in s f k (allowed_in s f) ≡ None = not_cleared _ s.limit s.gap_end s.slots.top top in
     let falls = falls_in H (s.made + 1) s holds in
-    let r : met_t = record { kind = k; in_flow = false; allowed = a; new = new; context = record { depth = 0; level = l } } in
+    let r : met_t = record { kind = k; in_flow = f; allowed = a; new = new; context = record { depth = d; level = l } } in
     let start : new.start ≡ s.gap_end = ap (λ (n : Held). n.start) N in
-    let all : reverse s.layout.levels.items ≡ filter (stays false k new.start) (reverse s.layout.levels.items) = rw start (sym (all_kept false k s.gap_end (reverse s.layout.levels.items) falls kept)) in
-    let flat : vec_len s.slots.outer ≡ 0 = (let z = ltb-false _ _ (sym w.passes.flow) in omega arith) in
-    ready H s s false k w (met_there H s false w.passes k w.is_kind refused cleared) (beside_itself s) r room refl A
+    let all : reverse s.layout.levels.items ≡ filter (stays f k new.start) (reverse s.layout.levels.items) = rw start (sym (all_kept f k s.gap_end (reverse s.layout.levels.items) falls kept)) in
+    ready H s s f k w (met_there H s f w.passes k w.is_kind refused cleared) (beside_itself s) r room refl A
     record {
       flow = w.passes.flow;
       is_greatest = L ∙ ap greatest_level all;
@@ -97,7 +96,7 @@ can_read H s k w Q ALONE room kept a A l L new N =
       start = start ∙ (rw (candidate_not_end k Q) refl);
       required = ap (λ (n : Held). n.required) N ∙ (rw start refl);
     }
-    (sym flat)
+    D
 
 -- IT IS READ
 module _ (H : List Laid) (s : Scanner) (r : met_t) (k : Kind) (part : yaml_part_t) (can : CanRead H s r) (K : r.kind ≡ k) (READ : (start : yaml_mark_t) (p : ℕ) → IsMarkOf s.text.chars s.gap_end p → IsRead s.text.chars k r.context.depth r.context.level p (part_from start part)) (Q : is_candidate_kind k ≡ true) where

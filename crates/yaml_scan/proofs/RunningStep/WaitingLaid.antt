@@ -42,19 +42,19 @@ ends_after early_mark (y ∷ []) token e = e
 ends_after early_mark (y ∷ (z ∷ ys)) token e = e
 
 -- LEVELS IN FLOW
-flow_keeps : (k : Kind) (m : yaml_mark_t) (cs : List ℕ) → filter (stays true k m) cs ≡ cs
+pub flow_keeps : (k : Kind) (m : yaml_mark_t) (cs : List ℕ) → filter (stays true k m) cs ≡ cs
 flow_keeps k m [] = refl
 flow_keeps k m (c ∷ cs) = ap (λ (ds : List ℕ). c ∷ ds) (flow_keeps k m cs)
 
-flow_closes_none : (k : Kind) (m : yaml_mark_t) (cs : List ℕ) → filter (λ c. not (stays true k m c)) cs ≡ []
+pub flow_closes_none : (k : Kind) (m : yaml_mark_t) (cs : List ℕ) → filter (λ c. not (stays true k m c)) cs ≡ []
 flow_closes_none k m [] = refl
 flow_closes_none k m (c ∷ cs) = flow_closes_none k m cs
 
-flow_opened : (o : Option Held) (k : Kind) (m : yaml_mark_t) (cs : List ℕ) → opened true o k m cs ≡ cs
+pub flow_opened : (o : Option Held) (k : Kind) (m : yaml_mark_t) (cs : List ℕ) → opened true o k m cs ≡ cs
 flow_opened None k m cs = refl
 flow_opened (Some h) k m cs = refl
 
-flow_opens_none : (o : Option Held) (k : Kind) (n : ℕ) (cs : List ℕ) → opened_by true o k n cs ≡ NONE
+pub flow_opens_none : (o : Option Held) (k : Kind) (n : ℕ) (cs : List ℕ) → opened_by true o k n cs ≡ NONE
 flow_opens_none None k n cs = refl
 flow_opens_none (Some h) k n cs = refl
 

@@ -1,10 +1,11 @@
-use Rattle.std.proofs.Common.{◌||◌, ◌+◌, ◌∷◌, [], ◌++◌, ℕ, Bool, false, refl, ap, ◌∙◌, subst, length}
+use Rattle.std.proofs.Common.{◌≡◌, ◌||◌, ◌&&◌, ◌+◌, ◌∷◌, [], ◌++◌, ℕ, Bool, false, refl, ap, sym, ◌∙◌, subst, length}
 use Rattle.yaml_text.specs.declared.types.yaml_mark_t.{yaml_mark_t}
 use Rattle.yaml_lexeme.specs.Counted.{IsMarkOf}
 use Rattle.yaml_lexeme.specs.LexemeOf.{lexeme_of}
 use Rattle.yaml_scan.specs.Token.{yaml_token_t}
 use Rattle.yaml_scan.specs.inside.Scanner.{scanner_of}
 use Rattle.yaml_scan.specs.inside.Scanning.{CanLayAll, LaysTwo, groups_in}
+use Rattle.yaml_scan.specs.inside.Slots.{is_live}
 use Rattle.yaml_scan.specs.inside.Handed.{group_with, lone, read_to}
 use Rattle.yaml_scan.proofs.History.KindTests.{candidate_not_end}
 use Rattle.yaml_scan.proofs.RunningQueue.NoCandidates.{none_at_all}
@@ -86,7 +87,7 @@ returns-else-is_kept-clause-laid g c = λ said b e t p T.
         says = says_there g.before s c.args.read.met x p _ says;
         keyless = refl;
         last = λ _. candidate_not_end c.args.read.met.kind q;
-        awaited = λ _. l.none none q c.requires.1.1.0 (c.is_kept.ensures c.if-is_kept.false);
+        awaited = λ _. l.none none q c.requires.1.1.0 (λ a. subst (λ (z : Bool). (z && is_live s.limit c.args.read.reach c.args.read.met.new) ≡ false) a (sym c.is_kept.ensures ∙ c.if-is_kept.false));
         alone = λ _. l.queued q ∙ c.requires.1.1.1;
       },
     )

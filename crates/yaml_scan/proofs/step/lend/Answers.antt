@@ -16,8 +16,8 @@ lay_lent-requires g c =
     let start = c.in-Ok.met.new.start in (
       (part_from start c.in_ok-part.part, ((refl, refl), part_can g.before s c.in-Ok.met g.R.yaml_reader_t.KIND c.in_ok-part.part b.0 k c.in_ok-part.ensures.read (c.goes_well.ensures.none_lost c.args.text.now well) (c.goes_well.ensures.far well) start)),
       (
-        subst (λ (z : Kind). is_candidate_kind z ≡ true) (sym k) c.requires.1.1.1.1.0,
-        (subst (λ (z : Kind). is_flow_start z ≡ false) (sym k) c.requires.1.1.1.1.1.0, b.4 ∙ c.requires.1.1.1.1.1.1),
+        subst (λ (z : Kind). is_candidate_kind z ≡ true) (sym k) c.requires.1.1.1.0,
+        (subst (λ (z : Kind). is_flow_start z ≡ false) (sym k) c.requires.1.1.1.1.0, b.4 ∙ c.requires.1.1.1.1.1),
       ),
     )
 
