@@ -9,6 +9,7 @@ ghost use Rattle.yaml_scan.specs.inside.Slots.{empty_slots, lowest, AreEmptyBelo
 
 use crate::depth::{is_flow_end, is_flow_start, nests};
 use crate::keys::{candidate_t, change_slot, give_up, held_step, still_held};
+use crate::kind::is_candidate_kind;
 use crate::met::met_t;
 use yaml_lexeme::yaml_lexeme_kind_t;
 use yaml_text::yaml_mark_t;
@@ -175,14 +176,34 @@ impl slots_t {
         self.not_simple_keys = empty;
     }
 
+    /// Leaves the depth behind at a flow end, where no slot holds a candidate. Nothing changes at another kind, which is no
+    /// flow start.
+    #[inline(always)]
+    pub(crate) fn leave_at(&mut self, kind: yaml_lexeme_kind_t)
+        requires start { is_flow_start kind ≡ false }
+        requires none { lowest (self.old.outer.items ++ self.old.top ∷ []) ≡ None }
+        requires empty { self.old.not_simple_keys ≡ empty_slots self.old.outer.items }
+        requires awaited { self.old.awaited ≡ 0 }
+        ensures outer { self.new.outer.items ≡ nested_outer kind self.old.outer.items None }
+        ensures top { self.new.top ≡ nested_top kind self.old.outer.items None }
+        ensures empty { self.new.not_simple_keys ≡ vec_len self.new.outer }
+        ensures awaited { self.new.awaited ≡ 0 }
+    {
+        if is_flow_end(kind) {
+            self.outer.pop();
+            self.not_simple_keys = self.outer.len();
+        }
+    }
+
     /// Changes the candidates after the lexeme of a step, which was read to a mark. There is room for the depth that it
-    /// enters.
+    /// enters. Where no slot holds a candidate, and the lexeme is none, only the depth may change.
     #[inline(always)]
     pub(crate) fn keep_candidates(&mut self, met: met_t, limit: u64, mark: yaml_mark_t)
         requires flow { met.in_flow ≡ nat_lt 0 (vec_len self.old.outer) }
         requires empty { self.old.not_simple_keys ≡ empty_slots self.old.outer.items }
         requires nested { AreNested self.old.outer.items }
         requires room { is_flow_start met.kind ≡ true → vec_len self.old.outer < vec_capacity self.old.outer }
+        requires none { self.old.awaited ≡ 0 → lowest (self.old.outer.items ++ self.old.top ∷ []) ≡ None }
         ensures outer { self.new.outer.items
             ≡ nested_outer met.kind (map (still_held limit mark) self.old.outer.items)
             (still_held limit mark (slot_after met.kind met.allowed met.new self.old.top)) }
@@ -192,6 +213,10 @@ impl slots_t {
         ensures empty { self.new.not_simple_keys ≡ empty_slots self.new.outer.items }
         ensures awaited { self.new.awaited ≡ held_step (lowest (self.new.outer.items ++ self.new.top ∷ [])) }
     {
+        if self.awaited == 0 && !is_candidate_kind(met.kind) {
+            self.leave_at(met.kind);
+            return;
+        }
         change_slot(&mut self.top, met.kind, met.allowed, met.new);
         self.move_on(met, limit, mark);
     }
@@ -212,24 +237,6 @@ impl slots_t {
         if !waits {
             self.not_simple_keys = self.outer.len();
             self.awaited = 0;
-        }
-    }
-
-    /// Leaves the depth behind at what comes right after a scalar, if that is a flow end. It is no flow start, and there is
-    /// no candidate.
-    #[inline(always)]
-    pub(crate) fn leave_at(&mut self, kind: yaml_lexeme_kind_t)
-        requires start { is_flow_start kind ≡ false }
-        requires top { self.old.top ≡ None }
-        requires empty { self.old.not_simple_keys ≡ vec_len self.old.outer }
-        requires awaited { self.old.awaited ≡ 0 }
-        ensures outer { self.new.outer.items ≡ nested_outer kind self.old.outer.items None }
-        ensures top { self.new.top ≡ nested_top kind self.old.outer.items None }
-        ensures empty { self.new.not_simple_keys ≡ vec_len self.new.outer }
-        ensures awaited { self.new.awaited ≡ 0 }
-    {
-        if is_flow_end(kind) {
-            self.drop_candidate(kind, false);
         }
     }
 }

@@ -691,7 +691,7 @@ fn step_block<S: yaml_token_sink_t>(
 }
 
 /// Makes a step inside a flow collection while nothing is queued, whose groups go straight to the sink if they need not
-/// wait.
+/// wait. The common kinds are made here. The steps of others begin anew in the function for all kinds.
 #[inline(never)]
 fn step_flow<S: yaml_token_sink_t>(
     text: &yaml_text_t,
@@ -716,7 +716,42 @@ fn step_flow<S: yaml_token_sink_t>(
             yaml_lexeme_kind_t::DOUBLE_QUOTED => {
                 step_lent_in_flow::<quoted_reader_t<false>, S>(text, state, sink)
             }
-            _ => step_kind::<true, true, S>(text, state, sink, kind),
+            yaml_lexeme_kind_t::FLOW_ENTRY => {
+                step_character::<true, true, S>(text, state, sink, yaml_lexeme_kind_t::FLOW_ENTRY)
+            }
+            yaml_lexeme_kind_t::FLOW_SEQUENCE_START => {
+                step_character::<true, true, S>(
+                    text,
+                    state,
+                    sink,
+                    yaml_lexeme_kind_t::FLOW_SEQUENCE_START,
+                )
+            }
+            yaml_lexeme_kind_t::FLOW_MAPPING_START => {
+                step_character::<true, true, S>(
+                    text,
+                    state,
+                    sink,
+                    yaml_lexeme_kind_t::FLOW_MAPPING_START,
+                )
+            }
+            yaml_lexeme_kind_t::FLOW_SEQUENCE_END => {
+                step_character::<true, true, S>(
+                    text,
+                    state,
+                    sink,
+                    yaml_lexeme_kind_t::FLOW_SEQUENCE_END,
+                )
+            }
+            yaml_lexeme_kind_t::FLOW_MAPPING_END => {
+                step_character::<true, true, S>(
+                    text,
+                    state,
+                    sink,
+                    yaml_lexeme_kind_t::FLOW_MAPPING_END,
+                )
+            }
+            _ => step_at::<true, true, S>(text, state, sink),
         },
         Err(stop) => Err(stopped(stop)),
     }

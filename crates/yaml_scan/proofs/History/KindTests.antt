@@ -65,6 +65,9 @@ candidate_not_value k e = grind arith
 pub candidate_not_end : (k : Kind) → is_candidate_kind k ≡ true → is_stream_end k ≡ false
 candidate_not_end k e = grind arith
 
+pub other_no_start : (k : Kind) → is_candidate_kind k ≡ false → is_flow_start k ≡ false
+other_no_start k e = grind arith
+
 pub candidate_not_flow_end : (k : Kind) → is_candidate_kind k ≡ true → is_flow_end k ≡ false
 candidate_not_flow_end k e = grind arith
 

@@ -1,5 +1,5 @@
 -- Where no token is queued, there is no candidate.
-use Rattle.std.proofs.Common.{◌≡◌, ℕ, zero, suc, false, ◌-◌, ◌≤◌, ◌<◌, List, [], ◌∷◌, ◌++◌, map, take, length, length-append, Option, Some, None, refl, ap, sym, ◌∙◌, arith, inl, inr, eqb-true}
+use Rattle.std.proofs.Common.{◌≡◌, ℕ, zero, suc, false, ◌+◌, ◌-◌, ◌≤◌, ◌<◌, List, [], ◌∷◌, ◌++◌, map, take, length, length-append, Option, Some, None, refl, ap, sym, ◌∙◌, arith, inl, inr, subst, eqb-true}
 use Rattle.std.specs.Prelude.{◌⊎◌, slice_get}
 use Rattle.yaml_text.specs.declared.types.yaml_mark_t.{yaml_mark_t}
 use Rattle.yaml_scan.specs.inside.Scanner.{Scanner}
@@ -12,7 +12,7 @@ use Rattle.yaml_scan.specs.Laid.{Laid}
 use Rattle.yaml_scan.specs.Order.{IsHistory}
 use Rattle.yaml_scan.specs.Settled.{up_to}
 use Rattle.yaml_scan.specs.inside.Scanning.{Holds}
-use Rattle.yaml_scan.specs.inside.Slots.{Held, still_held, lost_held, root_of, empty_slots, lowest, outer_to, or_top, nested_outer, nested_top}
+use Rattle.yaml_scan.specs.inside.Slots.{Held, held_step, still_held, lost_held, root_of, empty_slots, lowest, outer_to, or_top, nested_outer, nested_top}
 use Rattle.yaml_scan.proofs.RunningQueue.CandidateGroup.{none_left, offline_split}
 use Rattle.yaml_scan.proofs.RunningQueue.QueueTokens.{not_settled}
 use Rattle.yaml_scan.proofs.RunningQueue.SlotOrder.{IsLowest, IsNone, held_is, lowest_is}
@@ -87,3 +87,20 @@ nested_none k hs s e = elim (cases_Bool (is_flow_end k)) [
   | inl q ↦ rw (s, q) (take_none (length hs - 1) hs e, top_none (length hs - 1) hs e)
   | inr q ↦ rw (s, q) (e, refl)
 ]
+
+-- nor is there one where none is awaited, since the step of a candidate is not 0
+pub none_there : (limit : ℕ) (H : List Laid) (k : ℕ) → held_step (lowest (outer_to limit H k)) ≡ 0 → lowest (outer_to limit H k) ≡ None
+none_there limit H k e = go (lowest_is limit H k)
+  where
+    go : IsLowest limit H k ⊎ IsNone limit H k → lowest (outer_to limit H k) ≡ None
+    go (inr r) = r.told
+    go (inl r) =
+        let c = held_is limit H r.at r.here r.is in
+        let z : held_step (Some r.here) ≡ 0 = subst (λ (o : Option Held). held_step o ≡ 0) r.told e in
+        let s : r.here.step ≡ c.laid.number + 2 = ap (λ (h : Held). h.step) c.told in
+        absurd (omega arith)
+
+pub none_where_none_awaited : (H : List Laid) (n : ℕ) (s : Scanner) → Holds H n s → s.slots.awaited ≡ 0 → lowest (s.slots.outer.items ++ s.slots.top ∷ []) ≡ None
+none_where_none_awaited H n s h e =
+    let z : held_step (lowest (s.slots.outer.items ++ s.slots.top ∷ [])) ≡ 0 = sym h.keys.awaited ∙ e in
+    rw (h.keys.outer, h.keys.top) (none_there s.limit H (suc (depth H)) (rw (h.keys.outer, h.keys.top) at z))

@@ -51,15 +51,6 @@ none_outside limit m [] top e l = absurd (omega arith)
 none_outside limit m (None ∷ hs) top e l = refl
 none_outside limit m (Some h ∷ hs) top e l = cc
 
--- where nothing is queued, no slot holds one
-pub no_candidate : (H : List Laid) (s : Scanner) → Holds H (s.made + 1) s → groups_in s ≡ [] → (s.slots.top ≡ None) × (s.slots.not_simple_keys ≡ vec_len s.slots.outer) × (s.slots.awaited ≡ 0)
-no_candidate H s h ALONE =
-    let n = usual.none H s h ALONE in
-    let e = all_empty s.slots.outer.items n.0 in
-    let f = h.keys.empty in
-    let o = s.slots.outer.ok.0 in
-    (n.1, omega arith, usual.none_waits H s h ALONE)
-
 -- IT IS READ
 -- it can be laid, if it is not near the fault
 pub can_lay : (H : List Laid) (s : Scanner) (r : met_t) (k : Kind) (part : yaml_part_t) → CanRead H s r → r.kind ≡ k → ((start : yaml_mark_t) (p : ℕ) → IsMarkOf s.text.chars s.gap_end p → IsRead s.text.chars k r.context.depth r.context.level p (part_from start part))

@@ -1,4 +1,4 @@
-use Rattle.std.proofs.Common.{◌∙◌, ℕ, Bool, true, refl, ap, sym, subst, length, arith}
+use Rattle.std.proofs.Common.{◌+◌, ◌∙◌, ℕ, Bool, true, refl, ap, sym, subst, length, arith}
 use Rattle.yaml_text.specs.declared.types.yaml_mark_t.{yaml_mark_t}
 use Rattle.yaml_lexeme.specs.Counted.{IsMarkOf}
 use Rattle.yaml_lexeme.specs.LexemeOf.{lexeme_of}
@@ -9,9 +9,11 @@ use Rattle.yaml_scan.specs.inside.Scanning.{CanLayAll}
 use Rattle.yaml_scan.specs.inside.TextReads.{IsDecider}
 use Rattle.yaml_scan.specs.declared.groups.block_t.TheVariants.{NONE}
 use Rattle.yaml_scan.proofs.History.KindTests.{decider_no_start}
-use Rattle.yaml_scan.proofs.RunningStep.FlowLaid.{alone_laid, both_laid, no_candidate}
+use Rattle.yaml_scan.proofs.RunningStep.FlowLaid.{alone_laid, both_laid}
 use Rattle.yaml_scan.proofs.RunningStep.StepHanded.{decider_len, few_given}
+use Rattle.yaml_scan.proofs.RunningQueue.NoCandidates.{none_at_all}
 use Rattle.yaml_scan.proofs.RunningStep.TwoLaid.{read_place}
+use Rattle.yaml_scan.proofs.RunningStep.UsualLaid.{none_waits}
 use Rattle.yaml_scan.proofs.flow.lay_in_flow.Goals as goal
 
 pub decider_at-requires : goal.decider_at-requires
@@ -23,8 +25,13 @@ leave_at-requires g c =
     let r = c.requires.0 in
     let s = scanner_of c.args.text.now c.args.state.now in
     let p = subst (λ (m : yaml_mark_t). (p : ℕ) × IsMarkOf c.args.text.now.chars m p) r.1.0.0 (read_place g.before s c.args.read.met r.0 r.1.1 c.requires.1.0) in
-    let n = no_candidate g.before s r.1.1.can.can.holds c.requires.1.1.1.0 in
-    record { start = decider_no_start true c.in-Some.decider.kind (c.in-Some.ensures.decides p.0 p.1).decides; top = n.0; empty = n.1; awaited = n.2 }
+    let h = r.1.1.can.can.holds in
+    record {
+      start = decider_no_start true c.in-Some.decider.kind (c.in-Some.ensures.decides p.0 p.1).decides;
+      none = none_at_all g.before (s.made + 1) s h c.requires.1.1.1.0;
+      empty = h.keys.empty;
+      awaited = none_waits g.before s h c.requires.1.1.1.0;
+    }
 
 pub returns-else-not-may_be_laid_with-clause-laid : goal.returns-else-not-may_be_laid_with-clause-laid
 returns-else-not-may_be_laid_with-clause-laid g c = λ d b e t p T.

@@ -15,6 +15,7 @@ use Rattle.yaml_scan.specs.Groups.Token.{BlockEnd}
 use Rattle.yaml_scan.specs.Levels.{stays}
 use Rattle.yaml_scan.specs.inside.Queue.{completed_in}
 use Rattle.yaml_scan.proofs.RunningQueue.GroupTokens.{ends_few}
+use Rattle.yaml_scan.proofs.RunningQueue.NoCandidates.{none_where_none_awaited}
 use Rattle.yaml_scan.proofs.RunningQueue.NoneAwaited.{none_awaited, none_completed}
 use Rattle.yaml_scan.proofs.laid.lay_lexeme.Goals as goal
 
@@ -23,6 +24,9 @@ close_levels-closed-requires g c = levels_fall g.before (c.args.state.now.made +
 
 pub keep_candidates-requires-clause-nested : goal.keep_candidates-requires-clause-nested
 keep_candidates-requires-clause-nested g c = let r = c.requires.0.2.1.can.holds in subst (λ (hs : List (Option Held)). AreNested hs) (sym r.keys.outer) (outer_nested c.args.state.now.limit g.before r.is_history)
+
+pub keep_candidates-requires-clause-none : goal.keep_candidates-requires-clause-none
+keep_candidates-requires-clause-none g c = λ e. none_where_none_awaited g.before (c.args.state.now.made + 1) (scanner_of c.requires.0.0 c.args.state.now) c.requires.0.2.1.can.holds e
 
 pub put_key-opens-requires-clause-falls : goal.put_key-opens-requires-clause-falls
 put_key-opens-requires-clause-falls g c = l_falls g.before (c.args.state.now.made + 1) (scanner_of c.requires.0.0 c.args.state.now) c.requires.0.2.1.can.holds c.requires.0.2.1.can.running (met_in (scanner_of c.requires.0.0 c.args.state.now) c.args.read.met) c.requires.0.2.1.can.met c.args.read.met.in_flow c.requires.0.2.1.is_new.flow c.args.read.met.new.start c.requires.0.2.1.is_new.start c.close_levels-closed.new.levels.items c.close_levels-closed.ensures.levels

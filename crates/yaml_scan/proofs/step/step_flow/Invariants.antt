@@ -12,5 +12,8 @@ ghost-step_lent_in_flow-2 g a = g.before
 abbrev pub ghost-step_lent_in_flow-3 : goal.ghost-step_lent_in_flow-3
 ghost-step_lent_in_flow-3 g a = g.before
 
-abbrev pub ghost-step_kind : goal.ghost-step_kind
-ghost-step_kind g a = g.before
+abbrev pub ghost-step_character : goal.ghost-step_character
+ghost-step_character g a = g.before
+
+abbrev pub ghost-step_at : goal.ghost-step_at
+ghost-step_at g a = g.before
