@@ -1,10 +1,12 @@
 //! The steps of scalars that are lent, inside flow collections. Nothing is queued, so that there is no candidate. A
-//! scalar is laid with what comes right after it, or alone. The levels stay as they are.
-ghost use Rattle.std.specs.Prelude.{◌≡◌, ◌+◌, ◌<◌, ◌≤◌, ◌∷◌, [], List, None, IfSome, OnOk, true, false, length};
+//! scalar is laid with what comes right after it, or alone: if steps are not `paired`, only with what decides whether it
+//! is a key. The levels stay as they are.
+ghost use Rattle.std.specs.Prelude.{ℕ, ◌≡◌, ◌+◌, ◌<◌, ◌≤◌, ◌∷◌, [], List, None, IfSome, OnOk, true, false, length};
 ghost use Rattle.std.specs.VecDeque.{deque_capacity};
 ghost use Rattle.yaml_text.specs.Token.{TokenData, token_of};
 ghost use Rattle.yaml_text.specs.declared.token.yaml_token_t.{yaml_token_t as code_token_t};
 ghost use Rattle.yaml_text.specs.declared.types.yaml_mark_t.{yaml_mark_t};
+ghost use Rattle.yaml_lexeme.specs.Counted.{IsMarkOf};
 ghost use Rattle.yaml_lexeme.specs.Lexeme.{Lexeme};
 ghost use Rattle.yaml_lexeme.specs.LexemeOf.{lexeme_of};
 ghost use Rattle.yaml_scan.specs.Kind.{is_candidate_kind, is_flow_start, is_value};
@@ -13,6 +15,7 @@ ghost use Rattle.yaml_scan.specs.Sink.{said_len, texts_len};
 ghost use Rattle.yaml_scan.specs.inside.Handed.{IsReadTo, IsTokenOf, StepsTo, WasLaid, group_with, read_to, tokens_with};
 ghost use Rattle.yaml_scan.specs.inside.Scanner.{scanner_of};
 ghost use Rattle.yaml_scan.specs.inside.Scanning.{CanLayAll, Comes, groups_in};
+ghost use Rattle.yaml_scan.specs.inside.TextReads.{IsDecider};
 
 use crate::allowed::is_allowed_after;
 use crate::decider::{decider_at, decider_t};
@@ -29,7 +32,7 @@ use crate::source::part_at;
 use crate::state::state_t;
 use crate::stop::stop_t;
 use yaml_lexeme::yaml_reader_t;
-use yaml_text::yaml_text_t;
+use yaml_text::{yaml_mark_t, yaml_text_t};
 
 /// Whether what comes right after a scalar may be laid with it: it is not near the reader's fault, and no `:` after a
 /// scalar that is no candidate for a key. `kept`: the scalar is one.
@@ -41,10 +44,35 @@ fn may_be_laid_with(state: &state_t, kept: bool, decider: &decider_t) -> bool
     decider.lexeme.reach.index < state.near && (kept || !is_colon(decider.kind))
 }
 
+/// What comes right after a scalar in flow and may be laid with it: if steps are not `paired`, only where it decides
+/// whether the scalar is a key. `kept`: the scalar may be one.
+#[inline(always)]
+fn follower_in_flow(
+    text: &yaml_text_t,
+    paired: bool,
+    kept: bool,
+    at: yaml_mark_t,
+) -> Option<decider_t>
+    requires { (p : ℕ) × IsMarkOf text.now.chars at p }
+    ensures { IfSome result (λ d. (p : ℕ) → IsMarkOf text.now.chars at p
+        → IsDecider text.now.chars true p d.kind (lexeme_of d.lexeme)) }
+{
+    if paired || kept {
+        decider_at(text, at, true)
+    } else {
+        None
+    }
+}
+
 /// Lays a scalar, which was read, with what comes right after it, or alone if it is no key. Nothing is laid, and nothing
 /// returned, if it may yet be a key, or if what comes right after it is near the reader's fault.
 #[inline(always)]
-fn lay_in_flow(text: &yaml_text_t, state: &mut state_t, read: read_t) -> Option<laid_t>
+fn lay_in_flow(
+    text: &yaml_text_t,
+    state: &mut state_t,
+    read: read_t,
+    paired: bool,
+) -> Option<laid_t>
     ghost before: { List Laid }
     requires can { (x : Lexeme) × (IsReadTo x read.reach read.passed_break × CanLayAll before
         (scanner_of text.now state.old) read.met x) }
@@ -65,7 +93,7 @@ fn lay_in_flow(text: &yaml_text_t, state: &mut state_t, read: read_t) -> Option<
     ensures none { result ≡ None → state.new ≡ state.old }
 {
     let kept = is_kept(state, read);
-    match decider_at(text, read.reach, true) {
+    match follower_in_flow(text, paired, kept, read.reach) {
         Some(decider) => {
             if !may_be_laid_with(state, kept, &decider) {
                 return None;
@@ -106,6 +134,7 @@ pub(crate) fn lend_in_flow<R: yaml_reader_t, S: yaml_token_sink_t>(
     text: &yaml_text_t,
     state: &mut state_t,
     sink: &mut S,
+    paired: bool,
 ) -> Option<Result<(), stop_t>>
     ghost before: { List Laid }
     requires comes { Comes before (scanner_of text.now state.old) true R.KIND }
@@ -134,6 +163,6 @@ pub(crate) fn lend_in_flow<R: yaml_reader_t, S: yaml_token_sink_t>(
     {
         return None;
     }
-    let laid = lay_in_flow(text, state, read)?;
+    let laid = lay_in_flow(text, state, read, paired)?;
     Some(end_scalar(state, sink, laid, &lent_of(met.new.start, &part)))
 }

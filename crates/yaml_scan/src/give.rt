@@ -206,10 +206,10 @@ fn put_or_return<S: yaml_token_sink_t>(sink: &mut S, token: yaml_token_t) -> Opt
     }
 }
 
-/// Takes the next tokens, at least one. They go to the sink, and nothing is returned. They are those of a step, or of a
-/// scalar and what comes right after it, if they need not wait, or those of steps that have waited and need not any more,
-/// while the sink has room for all tokens of a step. Else the next token goes there alone. If the sink has no room for
-/// that token, or if it is the stream end, the token is returned, and the sink was given none.
+/// Takes the next tokens, at least one. They go to the sink, and nothing is returned. They are those of a step if they
+/// need not wait, or those of steps that have waited and need not any more, while the sink has room for all tokens of a
+/// step. Else the next token goes there alone. If the sink has no room for that token, or if it is the stream end, the
+/// token is returned, and the sink was given none.
 ///
 /// If a new parser is asked so again and again, the tokens that the sink got and those that were returned are together
 /// those that [`yaml_scan_to`](crate::yaml_scan_to) gives, in order, to the stream end or before the fault. The stream

@@ -331,6 +331,7 @@ fn step_lent_in_flow<R: yaml_reader_t, S: yaml_token_sink_t>(
     text: &yaml_text_t,
     state: &mut state_t,
     sink: &mut S,
+    paired: bool,
 ) -> Result<(), stop_t>
     ghost before: { List Laid }
     requires comes { Comes before (scanner_of text.now state.old) true R.KIND }
@@ -345,7 +346,7 @@ fn step_lent_in_flow<R: yaml_reader_t, S: yaml_token_sink_t>(
     if !has_room_for_both::<true, S>(sink, &state.layout.levels, 0) {
         return step_lexeme::<R, true, true, S>(text, state, sink);
     }
-    match lend_in_flow::<R, S>(text, state, sink) {
+    match lend_in_flow::<R, S>(text, state, sink, paired) {
         Some(made) => made,
         None => step_lexeme::<R, true, true, S>(text, state, sink),
     }
@@ -691,12 +692,14 @@ fn step_block<S: yaml_token_sink_t>(
 }
 
 /// Makes a step inside a flow collection while nothing is queued, whose groups go straight to the sink if they need not
-/// wait. The common kinds are made here. The steps of others begin anew in the function for all kinds.
-#[inline(never)]
+/// wait. The common kinds are made here. The steps of others begin anew in the function for all kinds. `paired`: the step
+/// of a scalar that is no key is made with that of what comes right after it.
+#[inline(always)]
 fn step_flow<S: yaml_token_sink_t>(
     text: &yaml_text_t,
     state: &mut state_t,
     sink: &mut S,
+    paired: bool,
 ) -> Result<(), stop_t>
     ghost before: { List Laid }
     requires can { CanStep before (scanner_of text.now state.old) }
@@ -709,12 +712,14 @@ fn step_flow<S: yaml_token_sink_t>(
 {
     match pass_gap::<true>(text, state) {
         Ok(kind) => match kind {
-            yaml_lexeme_kind_t::PLAIN => step_lent_in_flow::<plain_reader_t, S>(text, state, sink),
+            yaml_lexeme_kind_t::PLAIN => step_lent_in_flow::<plain_reader_t, S>(
+                text, state, sink, paired,
+            ),
             yaml_lexeme_kind_t::SINGLE_QUOTED => {
-                step_lent_in_flow::<quoted_reader_t<true>, S>(text, state, sink)
+                step_lent_in_flow::<quoted_reader_t<true>, S>(text, state, sink, paired)
             }
             yaml_lexeme_kind_t::DOUBLE_QUOTED => {
-                step_lent_in_flow::<quoted_reader_t<false>, S>(text, state, sink)
+                step_lent_in_flow::<quoted_reader_t<false>, S>(text, state, sink, paired)
             }
             yaml_lexeme_kind_t::FLOW_ENTRY => {
                 step_character::<true, true, S>(text, state, sink, yaml_lexeme_kind_t::FLOW_ENTRY)
@@ -757,6 +762,44 @@ fn step_flow<S: yaml_token_sink_t>(
     }
 }
 
+/// Makes a step as `step_flow` does, for a sink that takes all tokens: a value and a `,` are one turn.
+#[inline(never)]
+fn step_flow_paired<S: yaml_token_sink_t>(
+    text: &yaml_text_t,
+    state: &mut state_t,
+    sink: &mut S,
+) -> Result<(), stop_t>
+    ghost before: { List Laid }
+    requires can { CanStep before (scanner_of text.now state.old) }
+    requires flow { true ≡ nat_lt 0 (vec_len state.old.slots.outer) }
+    requires alone { groups_in (scanner_of text.now state.old) ≡ [] }
+    ensures steps { StepsTo before (scanner_of text.now state.old) (scanner_of text.now state.new) true
+        (λ tokens. S.took sink.old tokens sink.new)
+        S.may_refuse result }
+    ensures within { OnOk result (S.within sink.old → S.within sink.new) }
+{
+    step_flow::<S>(text, state, sink, true)
+}
+
+/// Makes a step as `step_flow` does, for calls that hand out the tokens of one step.
+#[inline(never)]
+fn step_flow_apart<S: yaml_token_sink_t>(
+    text: &yaml_text_t,
+    state: &mut state_t,
+    sink: &mut S,
+) -> Result<(), stop_t>
+    ghost before: { List Laid }
+    requires can { CanStep before (scanner_of text.now state.old) }
+    requires flow { true ≡ nat_lt 0 (vec_len state.old.slots.outer) }
+    requires alone { groups_in (scanner_of text.now state.old) ≡ [] }
+    ensures steps { StepsTo before (scanner_of text.now state.old) (scanner_of text.now state.new) true
+        (λ tokens. S.took sink.old tokens sink.new)
+        S.may_refuse result }
+    ensures within { OnOk result (S.within sink.old → S.within sink.new) }
+{
+    step_flow::<S>(text, state, sink, false)
+}
+
 /// Makes a step, or two if the next token needs both, and hands on their groups: straight to the sink if `DIRECT` and
 /// they need not wait, and else into the queue.
 #[inline(always)]
@@ -774,7 +817,7 @@ pub(crate) fn step_to<const DIRECT: bool, S: yaml_token_sink_t>(
 {
     if !state.slots.outer.is_empty() {
         if DIRECT && state.layout.queue.groups.is_empty() {
-            return step_flow::<S>(text, state, sink);
+            return step_flow_paired::<S>(text, state, sink);
         }
         return step_at::<true, DIRECT, S>(text, state, sink);
     }
@@ -820,7 +863,7 @@ pub(crate) fn step_apart<S: yaml_token_sink_t>(
 {
     if !state.slots.outer.is_empty() {
         if state.layout.queue.groups.is_empty() {
-            return step_flow::<S>(text, state, sink);
+            return step_flow_apart::<S>(text, state, sink);
         }
         step_at::<true, true, S>(text, state, sink)
     } else if state.layout.levels.is_empty() || !state.layout.queue.groups.is_empty() {

@@ -9,5 +9,5 @@ ghost-step_at-2 g a = g.before
 abbrev pub ghost-step_block_apart : goal.ghost-step_block_apart
 ghost-step_block_apart g a = g.before
 
-abbrev pub ghost-step_flow : goal.ghost-step_flow
-ghost-step_flow g a = g.before
+abbrev pub ghost-step_flow_apart : goal.ghost-step_flow_apart
+ghost-step_flow_apart g a = g.before

@@ -9,5 +9,5 @@ ghost-step_block g a = g.before
 abbrev pub ghost-step_at-2 : goal.ghost-step_at-2
 ghost-step_at-2 g a = g.before
 
-abbrev pub ghost-step_flow : goal.ghost-step_flow
-ghost-step_flow g a = g.before
+abbrev pub ghost-step_flow_paired : goal.ghost-step_flow_paired
+ghost-step_flow_paired g a = g.before

@@ -1,0 +1,4 @@
+use Rattle.yaml_scan.proofs.step.step_flow_apart.Given as goal
+
+abbrev pub ghost-step_flow : goal.ghost-step_flow
+ghost-step_flow g a = g.before
