@@ -53,7 +53,10 @@ SPARE = 3
 # The example of the READMEs: no token of the first line is given, since the fault is near.
 NEAR = b"ab: cd\nx: \xffb"
 NEAR_WANTED = ["STREAM-START 0:0:0 0:0:0 UTF8", "FAULT reader 10 255 invalid leading UTF-8 octet"]
-SMALL = [b"a: 1", b"- [a, b]\n- {c: d}\n", b"? |\n  text\n: 'x'\n", b"a: b: c", b"\xff\xfea\0:\0 \0b\0", b"a\xff"]
+SMALL = [
+    b"a: 1", b"- [a, b]\n- {c: d}\n", b"a: {b: c, \"d\": [e, 'f']}\n", b"? |\n  text\n: 'x'\n", b"a: b: c",
+    b"\xff\xfea\0:\0 \0b\0", b"a\xff",
+]
 
 
 def source(name):

@@ -20,6 +20,10 @@ say how many steps are queued, which are compared, and scans, peeks and skips on
 request that is refused in a call is answered by that call's fault, so nothing asks twice for the same memory. The answers
 before it are those with ample memory; after it come empty tokens. On the 100 entries more than 100 requests are answered so,
 and fewer than 100 of these faults come before the tenth token, so tokens are handed out while memory is still to be requested.
+
+At last testbench gives the tokens of the small inputs, and of those of which most scalars are lent, to sinks: all by one call,
+in batches, and with the input in pieces, with sinks of several rooms. With ample memory they are those of scans. Each request
+that is refused is answered by the fault after some of the first of these tokens, never after all of them.
 Needs a C compiler.
 """
 
@@ -38,6 +42,7 @@ HUNDRED = b"- x\n" * 100
 ZERO = "0:0:0"
 DEEP_RUNS = 6  # so many requests of a command on a deep row are refused
 MOST_CALLS = 100_000  # so many calls are a word that a process may be given
+MOST_TOKENS = 60  # that a small input has
 WANTED = f"FAULT memory 0 0 {ZERO} {ZERO} -; -"
 # the answers of testbench to calls after a fault
 IDLE = {"s": f"TOKEN YAML_NO_TOKEN {ZERO} {ZERO}", "p": f"PEEKED TOKEN YAML_NO_TOKEN {ZERO} {ZERO}", "k": "NOTHING"}
@@ -50,6 +55,18 @@ STEPS = [
     b"[? key : value]", b"- &a !t x\n- *a\n", b"*a : &b c\n", b"[!<tag:e> a, !e!%41 b]", b"[[[[a]]]]", b"a\n b\n  c\n", b"a:\n b:\n  c:\n   - d\n",
     b'- "' + b"long " * 40 + b'\\n"\n', b"- " + b"long\n  " * 40,
 ]
+
+# Texts of which most scalars are lent, outside of flow and in flow. What takes memory is between these: names, escapes, literal
+# scalars and scalars of two lines, starts of collections, and documents.
+LENT = [
+    b'a: b\nc: *d\n"e": "f\\n"\ng: |\n  h\ni: &j \'k\'\nl:\n  m: n\n', b'- a\n- b: c\n  d: &e f\n-\n  - "g\\t"\n  - h: i\n',
+    b'--- {a: b, "c": \'d\', &e f: "g\\n", h}\n--- [i, *j , k: l, "m\n n", o]\n',
+    b'{\n  "a": "b",\n  "c": [\n    1, &d 2, "e\\t",\n    3\n  ]\n}\n', b"a: [b, c: {d: !e f}, g]\nh: {i: j, k: [*l , m]}\n",
+]
+# For how many tokens, and bytes of their texts, a sink has room: for all of them, at each call for some, or for none.
+ROOMS = [["-", "-"], ["8", "100"], ["5", "2"], ["1", "1"], ["0", "0"]]
+# for how many tokens a sink has room, and how many bytes a piece has
+PIECES = [["1", "1"], ["5", "3"], ["40", "16"]]
 
 
 def scanned(program, data):
@@ -182,6 +199,43 @@ def steps():
                 yield setting, data.decode("ascii").encode(codec), word
 
 
+def handed_out(done):
+    """The tokens that a sink was given and those that were returned, and the fault, in order, up to the end of the session."""
+    for line in done.stdout.decode("ascii").splitlines():
+        told = line.split(" ", 1)[1] if line.startswith(("GIVEN ", "RETURNED ")) else line
+        if told != IDLE["s"] and not told.startswith(("STATE ", "ENDED")):
+            yield told
+
+
+def sink_faults(testbench, refuser, words, data):
+    """Refuses each request in turn while tokens go to sinks. Returns how many tokens come before the fault, for each.
+
+    None if one is not answered by the fault after some of the tokens that scans give.
+    """
+    whole = list(handed_out(run_counted(testbench, ["each", *words[1:3], "s" * MOST_TOKENS], data, refuser, 0)[0]))
+    done, counts, held = run_counted(testbench, words, data, refuser, 0, after_reading=True)
+    before, is_right = [], list(handed_out(done)) == whole and not held and not done.stderr
+    for number in range(1, sum(counts) + 1):
+        done, _, held = run_counted(testbench, words, data, refuser, number, after_reading=True)
+        *tokens, fault = [*handed_out(done)] or [None]
+        if held or done.stderr or fault != WANTED or tokens != whole[:-1][: len(tokens)]:
+            print(f"{words}, {data[:80]!r}, {number}: {done.stdout[-300:]!r}, {done.stderr!r}, {held} blocks")
+            is_right = False
+        before.append(len(tokens))
+    return before if is_right else None
+
+
+def sinks():
+    """The words and the input for each small input, and each room of a sink, or each size of pieces."""
+    for data in [*STEPS, *LENT]:
+        for setting, codec in ("utf8", "utf-8"), ("utf16le", "utf-16-le"):
+            for command in "to", "batches":
+                for room in ROOMS:
+                    yield [command, setting, "1024", *room], data.decode("ascii").encode(codec)
+            for pieces in PIECES:
+                yield ["pieces", setting, "1024", *pieces], data.decode("ascii").encode(codec)
+
+
 def main(program):
     every, deep, small = list(commands(program)), list(deep_commands(program)), list(steps())
     testbench = os.path.join(os.path.dirname(program), "..", "..", "testbench", "out", "testbench")
@@ -196,6 +250,7 @@ def main(program):
             hundred = faults_of(testbench, refuser, "any", HUNDRED, "s" * 310)
             queues = list(pool.map(lambda row: queue_faults(testbench, refuser, row), QUEUES))
             found = list(pool.map(lambda one: faults_of(testbench, refuser, *one), small))
+            given = list(pool.map(lambda one: sink_faults(testbench, refuser, *one), sinks()))
     wrong = total.pop(None)
     counts = ", ".join(f"{count} {kind}" for kind, count in total.items())
     print(f"growths: {len(every)} commands and {len(deep)} on deep rows, {counts}, {wrong} wrong")
@@ -204,7 +259,8 @@ def main(program):
     print(f"growths: 100 entries, {faults} faults of kind memory, {early} of them before the tenth token")
     print(f"growths: {len(QUEUES)} rows with queued steps, {sum(filter(None, queues))} faults, {queues.count(None)} not answered")
     print(f"growths: {len(STEPS)} small inputs, {sum(len(one or []) for one in found)} faults, {unanswered} lists of calls not answered")
-    is_wrong = wrong or unanswered or not all(queues) or not all(total.values()) or faults <= 100 or early >= 100
+    print(f"growths: {len(given)} times to sinks, {sum(len(one or []) for one in given)} faults, {given.count(None)} not answered")
+    is_wrong = wrong or unanswered or None in given or not all(queues) or not all(total.values()) or faults <= 100 or early >= 100
     return 1 if is_wrong or any(len(one or []) < 2 for one in found) else 0
 
 

@@ -89,6 +89,8 @@ WAYS = [
     Way("testbench", "kept", "yaml_kept_scan_to"),
     Way("testbench", "kept-ones", "yaml_kept_scan_to"),
     Way("testbench", "kept-peeks", "yaml_kept_peek", "yaml_kept_scan_to"),
+    Way("testbench", "pieces", "yaml_fed_scan_to"),
+    Way("testbench", "pieces-ones", "yaml_fed_scan_to"),
     Way("ways", "all", "bogzhami_scan_all"),
     Way("ways", "batches", "bogzhami_next"),
     Way("ways", "ones", "bogzhami_next"),
@@ -102,12 +104,13 @@ WAYS = [
 # What the other public calls give.
 WITHOUT_TOKENS = {
     "a parser, whose tokens come by the calls of one": [
-        "yaml_parser_t::new", "yaml_parser_t::with_key_limit", "yaml_kept_parser_t::new", "bogzhami_open", "bogzhami_close",
+        "yaml_parser_t::new", "yaml_parser_t::with_key_limit", "yaml_kept_parser_t::new", "yaml_fed_parser_t::new",
+        "bogzhami_open", "bogzhami_close",
     ],
     "what a session shows": [
         "yaml_parser_fault", "yaml_parser_has_token", "yaml_parser_mark", "yaml_parser_queued", "yaml_kept_parser_t::mark",
-        "yaml_kept_parser_t::is_over", "yaml_kept_parser_t::fault", "yaml_kept_parser_t::peeked", "bogzhami_reach",
-        "bogzhami_encoding",
+        "yaml_kept_parser_t::is_over", "yaml_kept_parser_t::fault", "yaml_kept_parser_t::peeked", "yaml_fed_parser_t::fault",
+        "yaml_fed_parser_t::peeked", "bogzhami_reach", "bogzhami_encoding",
     ],
     "lexemes": ["yaml_gap", "yaml_lexeme_at", "yaml_lexeme_kind"],
     "text and places": [
@@ -134,7 +137,7 @@ def rattle_calls():
     sources = [read(path) for crate in ("yaml_scan", "yaml_lexeme", "yaml_text") for path in found(f"crates/{crate}/src/*.rt")]
     yield from sorted(names & set(re.findall(r"(?m)^pub fn (\w+)", "".join(sources))))
     for text in sources:
-        for kind, body in re.findall(r"(?ms)^impl(?:<'a>)? (yaml_parser_t|scanner_t)\S* \{\n(.*?)^\}", text):
+        for kind, body in re.findall(r"(?ms)^impl(?:<'a>)? (yaml_parser_t|scanner_t|yaml_fed_parser_t)\S* \{\n(.*?)^\}", text):
             yield from (f"{shown.get(kind, kind)}::{name}" for name in re.findall(r"(?m)^    pub fn (\w+)", body))
 
 

@@ -27,7 +27,7 @@ const INPUTS: [&[u8]; 5] = [
 ];
 
 /// How many bytes the texts of a token have.
-fn texts_len(token: &yaml_token_t) -> u128 {
+pub(crate) fn texts_len(token: &yaml_token_t) -> u128 {
     match &token.token_data {
         unnamed_yaml_token_t_data::SCALAR { value, style: _ }
         | unnamed_yaml_token_t_data::ANCHOR { value }
@@ -43,7 +43,7 @@ fn texts_len(token: &yaml_token_t) -> u128 {
 }
 
 /// Whether a token says what a scalar says that is lent, and has its marks.
-fn is_token_of(token: &yaml_token_t, scalar: &yaml_lent_scalar_t) -> bool {
+pub(crate) fn is_token_of(token: &yaml_token_t, scalar: &yaml_lent_scalar_t) -> bool {
     match &token.token_data {
         unnamed_yaml_token_t_data::SCALAR { value, style } => {
             value.as_slice() == scalar.value
@@ -226,7 +226,7 @@ fn given(alloc: Global, input: &[u8], room: u128, texts: u128) -> Result<usize, 
 }
 
 /// Asserts that a sink gets so many tokens in calls that have room for so many.
-fn expect_given(
+pub(crate) fn expect_given(
     rt: &(impl Abort + AllocGlobal),
     input: &[u8],
     room: u128,
@@ -439,7 +439,7 @@ fn peeked_and_given(alloc: Global, input: &[u8], count: usize) -> Result<usize, 
 }
 
 /// Asserts that all tokens of an input are shown, and given one by one.
-fn expect_all_peeked(rt: &(impl Abort + AllocGlobal), input: &[u8]) -> Result<(), Fail> {
+pub(crate) fn expect_all_peeked(rt: &(impl Abort + AllocGlobal), input: &[u8]) -> Result<(), Fail> {
     let count = count_of(rt.alloc(), input)?;
     let tokens = peeked_and_given(rt.alloc(), input, count)?;
     assert_eq!(rt; tokens, count);
@@ -617,7 +617,11 @@ impl yaml_token_sink_t for values_t {
 }
 
 /// The row of the values of an input, and whether there is a fault after them.
-fn values_within(alloc: Global, input: &[u8], limit: u32) -> Result<(Vec<u8>, bool), Fail>
+pub(crate) fn values_within(
+    alloc: Global,
+    input: &[u8],
+    limit: u32,
+) -> Result<(Vec<u8>, bool), Fail>
     requires least { 1 ≤ limit }
     requires most { limit ≤ 65536 }
 {
@@ -629,7 +633,7 @@ fn values_within(alloc: Global, input: &[u8], limit: u32) -> Result<(Vec<u8>, bo
 }
 
 /// The row of the values of an input without a fault.
-fn values_of(alloc: Global, input: &[u8]) -> Result<Vec<u8>, Fail> {
+pub(crate) fn values_of(alloc: Global, input: &[u8]) -> Result<Vec<u8>, Fail> {
     let (row, faulty) = values_within(alloc, input, 1024)?;
     if faulty {
         return Err("fault".into());

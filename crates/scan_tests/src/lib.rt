@@ -9,6 +9,10 @@ mod all_tests;
 #[cfg(test)]
 mod deep_tests;
 #[cfg(test)]
+mod fed_tests;
+#[cfg(test)]
 mod kept_tests;
+#[cfg(test)]
+mod lent_tests;
 #[cfg(test)]
 mod parser_tests;

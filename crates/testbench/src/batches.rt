@@ -2,8 +2,11 @@
 //!
 //! The sink writes each token at once and keeps none. So nothing here takes memory after the input is read, but the
 //! calls.
-ghost use Rattle.std.specs.Prelude.{◌≤◌};
+ghost use Rattle.std.specs.Prelude.{◌≡◌, ◌≤◌, length, nat_eq, take};
+ghost use Rattle.yaml_scan.specs.Fed.{Fed};
+ghost use Rattle.yaml_scan.specs.inside.Feeding.{IsFed};
 
+use crate::pieces::feed_t;
 use crate::session::{
     MOST_KEY_LIMIT, put_fault, put_lent, put_state, put_token, start_t, wrong_words,
 };
@@ -12,8 +15,8 @@ use std::alloc::{AllocError, Global};
 use std::io;
 use std::io::Write;
 use yaml_scan::{
-    unnamed_yaml_token_t_data, yaml_fault_t, yaml_lent_scalar_t, yaml_parser_t, yaml_scan_next_to,
-    yaml_scan_to, yaml_token_sink_t, yaml_token_t,
+    unnamed_yaml_token_t_data, yaml_fault_t, yaml_fed_t, yaml_lent_scalar_t, yaml_parser_t,
+    yaml_scan_next_to, yaml_scan_to, yaml_token_sink_t, yaml_token_t,
 };
 
 /// How many calls are made after the one that returns the stream end or a fault.
@@ -214,6 +217,67 @@ pub fn take_batches(
 ) -> io::Result<()> {
     let room = room_of(words).ok_or(wrong_words())?;
     take_each(out, parser, room)
+}
+
+/// Gives the next tokens of an input that comes in pieces to a sink of a room, and writes them.
+fn give_piece(out: &mut impl Write, feed: &mut feed_t, room: room_t) -> io::Result<yaml_fed_t>
+    requires within { feed.old.came ≤ length feed.old.input.now }
+    requires fed { (p : Fed) × (p.given ≡ take feed.old.came feed.old.input.now)
+        × (p.whole ≡ nat_eq feed.old.came (length feed.old.input.now)) × IsFed p feed.old.fed }
+    ensures within { feed.new.came ≤ length feed.new.input.now }
+    ensures fed { (p : Fed) × (p.given ≡ take feed.new.came feed.new.input.now)
+        × (p.whole ≡ nat_eq feed.new.came (length feed.new.input.now)) × IsFed p feed.new.fed }
+{
+    let mut lister = lister_t {
+        out,
+        left: room,
+        written: Ok(()),
+    };
+    let why = feed.scan_to(&mut lister);
+    lister.written?;
+    Ok(why)
+}
+
+/// Gives all tokens of an input that comes in pieces of so many bytes, each call to a sink of a room.
+fn give_in_pieces(
+    out: &mut impl Write,
+    feed: &mut feed_t,
+    room: room_t,
+    size: usize,
+) -> io::Result<()>
+    requires within { feed.old.came ≤ length feed.old.input.now }
+    requires fed { (p : Fed) × (p.given ≡ take feed.old.came feed.old.input.now)
+        × (p.whole ≡ nat_eq feed.old.came (length feed.old.input.now)) × IsFed p feed.old.fed }
+{
+    'calls: for _ in 0..u64::MAX {
+        match give_piece(out, feed, room)? {
+            yaml_fed_t::MORE | yaml_fed_t::WHOLE => feed.more(size),
+            yaml_fed_t::ROOM => {}
+            _ => break,
+        }
+    }
+    Ok(())
+}
+
+/// Gives all tokens of the input to sinks by calls of `yaml_fed_scan_to`, of which the words say for how many tokens each
+/// has room, and of how many bytes the pieces are. Then it writes the fault, or that there is none.
+///
+/// # Errors
+///
+/// `InvalidInput` if the words are no numbers of 1 or more, and otherwise the error of the write that failed.
+pub fn give_pieces(rt: &HostRuntime, start: start_t, words: &[String]) -> io::Result<()>
+    requires least { 1 ≤ start.limit }
+    requires most { start.limit ≤ MOST_KEY_LIMIT }
+{
+    let room = room_of(&words[..words.len().min(1)]).ok_or(wrong_words())?;
+    let size = word_at(words, 1).parse::<usize>().unwrap_or(0);
+    if room.tokens == 0 || size == 0 {
+        return Err(wrong_words());
+    }
+    let mut feed = feed_t::new(rt.alloc(), start);
+    let mut out = rt.stdout();
+    give_in_pieces(&mut out, &mut feed, room, size)?;
+    put_end(&mut out, &Ok(feed.fault()))
 }
 
 /// Writes the fault that all tokens were given with, or that there is none, or that memory was refused.

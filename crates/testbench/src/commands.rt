@@ -1,7 +1,7 @@
 //! The commands that make calls, and the words of each.
 ghost use Rattle.std.specs.Prelude.{◌≤◌};
 
-use crate::batches::{give_all, take_batches};
+use crate::batches::{give_all, give_pieces, take_batches};
 use crate::session::{
     MOST, MOST_KEY_LIMIT, call_bare, checked_limit, checked_setting, decode, make_calls, parser_of,
     read_front, read_input, run_words, scan_all, start_t, wrong_words,
@@ -46,6 +46,7 @@ fn list_tokens(rt: &HostRuntime, command: &str, start: start_t, words: &[String]
     match command {
         "all" => scan_all(rt, start),
         "to" => give_all(rt, start, words),
+        "pieces" => give_pieces(rt, start, words),
         _ => call_parser(rt, command, &mut parser_of(rt.alloc(), start), words),
     }
 }
@@ -84,7 +85,7 @@ fn read_tokens(
 }
 
 /// Runs the command of the words: `each ENC LIMIT WORD`, `calls ENC LIMIT WORD..`, `all ENC LIMIT`,
-/// `batches ENC LIMIT COUNT BYTES`, `to ENC LIMIT COUNT BYTES`, `decode ENC`, `front ENC` or `bare ENC`.
+/// `batches ENC LIMIT COUNT BYTES`, `to ENC LIMIT COUNT BYTES`, `pieces ENC LIMIT COUNT SIZE`, `decode ENC`, `front ENC` or `bare ENC`.
 ///
 /// # Errors
 ///

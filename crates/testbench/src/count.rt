@@ -2,6 +2,7 @@
 ghost use Rattle.std.specs.Prelude.{◌≤◌};
 
 use crate::kept::by_kept;
+use crate::pieces::by_pieces;
 use crate::session::{MOST_KEY_LIMIT, parser_of, start_t, wrong_words};
 use std::alloc::{AllocError, Global};
 use std::io;
@@ -322,7 +323,8 @@ fn count_by(alloc: Global, parser: &mut yaml_parser_t, way: &str) -> io::Result<
     }
 }
 
-/// Counts the tokens of an input in the way of a word: by one call, by calls of a kept parser, or by calls of a parser.
+/// Counts the tokens of an input in the way of a word: by one call, by calls of a kept parser, in pieces, or by calls of a
+/// parser.
 ///
 /// # Errors
 ///
@@ -338,6 +340,9 @@ fn counted(alloc: Global, start: start_t, way: &str) -> io::Result<count_t>
         "kept" => Ok(by_kept(alloc, start, MANY as u128, false)),
         "kept-ones" => Ok(by_kept(alloc, start, 1, false)),
         "kept-peeks" => Ok(by_kept(alloc, start, 1, true)),
+        "pieces" => Ok(by_pieces(alloc, start, MANY as u128, 0)),
+        "pieces-ones" => Ok(by_pieces(alloc, start, 1, 0)),
+        "pages" => Ok(by_pieces(alloc, start, MANY as u128, 4096)),
         _ => count_by(alloc, &mut parser_of(alloc, start), way),
     }
 }

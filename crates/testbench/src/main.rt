@@ -30,13 +30,16 @@
 //! - `batches` (calls of `yaml_scan_next_to` with a sink that has room for many tokens); `returned` (with one that has
 //!   none);
 //! - `kept` (calls of `yaml_kept_scan_to` with a sink that has room for many tokens); `kept-ones` (with room for one);
-//!   `kept-peeks` (with room for one, each after a `yaml_kept_peek`).
+//!   `kept-peeks` (with room for one, each after a `yaml_kept_peek`);
+//! - `pieces` (calls of `yaml_fed_scan_to` with a sink that has room for many tokens; once more bytes are wanted, as many
+//!   more come as came before); `pieces-ones` (with room for one); `pages` (with room for many tokens, and 4,096 bytes
+//!   more each time).
 //!
 //! With the word `rows` each line of the input is `ENC LIMIT WORD INPUT`, with the input in hexadecimal or `-`. The
 //! calls of WORD are made one by one on a parser of that input, and the answers are written as those of `each`, without
 //! the state of the session, and an empty line after them.
 //!
-//! Eight commands make calls of the library. Requests for memory may be refused or counted there: after the input is
+//! Nine commands make calls of the library. Requests for memory may be refused or counted there: after the input is
 //! read, only the named calls take memory (`session.rt`, `batches.rt`).
 //!
 //! - `each ENC LIMIT WORD` makes the calls of WORD one by one: `s` for a scan, `p` for a peek, `k` for a skip;
@@ -48,6 +51,8 @@
 //!   returned, if anything was, and the state of the session;
 //! - `to ENC LIMIT COUNT BYTES` gives all tokens to such a sink by one `yaml_scan_to`. It writes a line `GIVEN` for
 //!   each token, and at the end the fault, `ENDED` if there is none, or `REFUSED` if memory was;
+//! - `pieces ENC LIMIT COUNT SIZE` gives all tokens by calls of `yaml_fed_scan_to` with a sink that has room for COUNT
+//!   of them. Once more bytes are wanted SIZE more come. It writes what `to` writes;
 //! - `decode ENC` decodes the input;
 //! - `front ENC` decodes the input, and reads the lexeme at its front;
 //! - `bare ENC` makes the calls that take no memory: a new parser and its state, decoding of UTF-8, and at each place
@@ -66,6 +71,7 @@ mod commands;
 mod count;
 mod kept;
 mod measure;
+mod pieces;
 mod rows;
 mod session;
 mod show;

@@ -24,6 +24,8 @@ pub mod GivenToEnd
 pub mod SentTokens
 -- Several scans at once: the tokens that a sink was given are those that as many scans return.
 pub mod SeveralScans
+-- The tokens that a scan has handed out are the next ones of its input.
+pub mod HandedOn
 -- No token of the group at the head of the queue waits, if it is not that of the candidate which is awaited, and taking
 -- the group leaves the rest.
 pub mod HeadGroup
@@ -39,3 +41,15 @@ pub mod KeptFewer
 pub mod KeptCalls
 -- A running scanner of an unfinished text is a running scanner of every text that goes on from it.
 pub mod LongerText
+-- A scan over a text that goes on from that of an unfinished one, and one that stopped since more has to come.
+pub mod FedText
+-- What a scan gives of the bytes that came is what every input has that they may begin.
+pub mod FedTokens
+-- The calls of a scanner that is given its input in pieces, by what the scan of what came has done.
+pub mod FedCalls
+-- More bytes came: the scan goes on over the longer text.
+pub mod MoreCame
+-- A scan over a text that is refused for what is to come has begun, or its first step can't be made.
+pub mod FedBegins
+-- What a call gives of the scanner that is fed.
+pub mod FedGives

@@ -1,14 +1,17 @@
 -- A scanner that is given its input in pieces, as its calls see it. What they give is said of every input that the
 -- bytes so far may begin, so no cut occurs in it.
-use Rattle.std.specs.Prelude.{◌≡◌, ◌⊎◌, ℕ, ◌+◌, ◌≤◌, Bool, true, false, List, [], ◌∷◌, ◌++◌, take, drop, length}
+use Rattle.std.specs.Prelude.{◌≡◌, ◌≢◌, ◌⊎◌, ℕ, ◌+◌, ◌≤◌, Bool, true, false, List, [], ◌∷◌, ◌++◌, take, drop, length}
 use Rattle.std.specs.Prelude.{Option, None, Some}
+use Rattle.yaml_text.specs.Decode.{encoding_of}
 use Rattle.yaml_text.specs.Fault.{Fault, memory_fault}
 use Rattle.yaml_text.specs.declared.types.yaml_encoding_t.{yaml_encoding_t}
+use Rattle.yaml_text.specs.declared.types.yaml_encoding_t.TheVariants.{YAML_UTF8_ENCODING}
+use Rattle.yaml_text.specs.declared.types.yaml_error_type_t.TheVariants.{YAML_READER_ERROR}
 use Rattle.yaml_scan.specs.All.{AllOf}
 use Rattle.yaml_scan.specs.Answers.{answers}
 use Rattle.yaml_scan.specs.Begins.{Begins}
 use Rattle.yaml_scan.specs.Inputs.{answers_to}
-use Rattle.yaml_scan.specs.Pieces.{unfinished}
+use Rattle.yaml_scan.specs.Pieces.{is_broken, is_known, unfinished}
 use Rattle.yaml_scan.specs.Session.{Session}
 use Rattle.yaml_scan.specs.Sessions.{new_session}
 use Rattle.yaml_scan.specs.Token.{yaml_token_t}
@@ -32,6 +35,8 @@ MayBe false given input = Begins given input
 pub data Why : Type 0 where
   NO_ROOM : Why
   MORE : Why
+  -- the input is in UTF-16: its tokens come once all of it came
+  WHOLE : Why
   OVER : Why
   FAULT : Fault → Why
 
@@ -40,14 +45,23 @@ abbrev pub HasTakenAll : Fed → Option Fault → Type 0
 HasTakenAll q f = (input : List ℕ) → MayBe q.whole q.given input
     → AllOf (answers_to q.limit q.setting input) (take q.session.taken (answers_to q.limit q.setting input).tokens) f
 
+-- Nothing that the bytes so far settle is held back: no token, no fault of the scanner, and no bytes that can't be
+-- mended.
+pub record HoldsNothingBack (p q : Fed) : Type 0 where
+  pub tokens : length (answers p.limit (unfinished p.setting p.given)).tokens ≤ q.session.taken
+  pub fault : (f : Fault) → (answers p.limit (unfinished p.setting p.given)).fault ≡ Some f
+      → f.error ≡ YAML_READER_ERROR
+  pub bytes : is_known p.setting p.given ≡ true → is_broken p.setting p.given ≡ false
+
 -- what holds once a call gave no more tokens, by why it did
 abbrev pub EndsBy : Fed → Fed → Why → Type 0
-EndsBy p q NO_ROOM = Unit {0}
--- nothing that is settled is held back
-EndsBy p q MORE = (p.whole ≡ false)
-    × (length (answers p.limit (unfinished p.setting p.given)).tokens ≤ q.session.taken)
+EndsBy p q NO_ROOM = q.session.over ≡ false
+EndsBy p q MORE = (q.session.over ≡ false) × (p.whole ≡ false) × HoldsNothingBack p q
+EndsBy p q WHOLE = (q.session.over ≡ false) × (p.whole ≡ false) × (is_known p.setting p.given ≡ true)
+    × (encoding_of p.setting p.given ≢ YAML_UTF8_ENCODING)
 EndsBy p q OVER = (q.session.over ≡ true) × (q.session.fault ≡ None → (p.whole ≡ true) × HasTakenAll q None)
-EndsBy p q (FAULT f) = (f ≡ memory_fault) ⊎ HasTakenAll q (Some f)
+EndsBy p q (FAULT f) = (p.session.over ≡ false) × (q.session.over ≡ true) × (q.session.fault ≡ Some f)
+    × ((f ≡ memory_fault) ⊎ HasTakenAll q (Some f))
 
 -- a call gives the next tokens, and q is left
 pub record GivesOf (p : Fed) (tokens : List yaml_token_t) (why : Why) (q : Fed) : Type 0 where
@@ -56,6 +70,8 @@ pub record GivesOf (p : Fed) (tokens : List yaml_token_t) (why : Why) (q : Fed) 
   pub next : (input : List ℕ) → MayBe p.whole p.given input
       → tokens ≡ take (length tokens) (drop p.session.taken (answers_to p.limit p.setting input).tokens)
   pub ends : EndsBy p q why
+  -- after the end of its session it is given nothing, and stays as it is
+  pub at_end : p.session.over ≡ true → (tokens ≡ []) × (why ≡ OVER) × (q ≡ p)
 
 -- bytes come, which may be the last, or a call gives tokens
 pub data Turn : Type 0 where

@@ -48,4 +48,5 @@ pub mod Peek
 pub mod ReadingOn
 pub mod Puts
 pub mod KeptCalls
+pub mod FedCalls
 pub mod inside

@@ -1,24 +1,21 @@
 -- An input that comes in pieces: what is settled by the bytes that came so far.
-use Rattle.std.specs.Prelude.{◌≡◌, ◌⊎◌, ℕ, Bool, true, nat_le, List, [], ◌++◌, length, Some, if◌then◌else◌}
+use Rattle.std.specs.Prelude.{◌≡◌, ◌⊎◌, ℕ, Bool, true, List, [], ◌++◌, Some, if◌then◌else◌}
 use Rattle.yaml_text.specs.Fault.{Fault, bare_fault}
 use Rattle.yaml_text.specs.declared.types.yaml_encoding_t.{yaml_encoding_t}
-use Rattle.yaml_text.specs.declared.types.yaml_encoding_t.TheVariants.{YAML_ANY_ENCODING}
 use Rattle.yaml_text.specs.declared.types.yaml_error_type_t.TheVariants.{YAML_READER_ERROR}
 use Rattle.yaml_text.specs.Decode.{front}
+-- whether the encoding is known, and whether something is wrong that no bytes can mend
+pub use Rattle.yaml_text.specs.Pieces.{is_broken, is_known}
 use Rattle.yaml_scan.specs.Answers.{answers}
 use Rattle.yaml_scan.specs.Begins.{Begins}
 use Rattle.yaml_scan.specs.Course.{Input}
+use Rattle.yaml_scan.specs.Decoded.{decoded_input}
 use Rattle.yaml_scan.specs.Inputs.{answers_to}
 use Rattle.yaml_scan.specs.SourceOf.{source_of}
 
 -- the fault that stands for what is to come; it is never told
 abbrev pub to_come : Fault
 to_come = bare_fault YAML_READER_ERROR
-
--- what is to come does not change the encoding, nor which bytes are the byte order mark
-abbrev pub is_known : yaml_encoding_t → List ℕ → Bool
-is_known YAML_ANY_ENCODING given = nat_le 3 (length given)
-is_known setting given = true
 
 -- the characters that came so far, if the encoding is known
 abbrev pub chars_so_far : Bool → List ℕ → List ℕ
@@ -41,3 +38,9 @@ PiecesGoOn = (limit : ℕ) (setting : yaml_encoding_t) (given more : List ℕ)
     (answers limit (unfinished setting (given ++ more))).tokens
     × ((f : Fault) → (answers limit (unfinished setting given)).fault ≡ Some f
     → (f ≡ to_come) ⊎ (answers_to limit setting (given ++ more) ≡ answers limit (unfinished setting given)))
+
+-- What is wrong with the bytes so far, if no bytes can mend it, is wrong with the whole input, whatever more comes: it
+-- is read as these bytes are.
+abbrev pub RefusedForGood : Type 0
+RefusedForGood = (setting : yaml_encoding_t) (given more : List ℕ) → is_known setting given ≡ true
+    → is_broken setting given ≡ true → decoded_input setting (given ++ more) ≡ decoded_input setting given

@@ -21,3 +21,4 @@ pub mod Kept
 pub mod Sent
 pub mod KeptParts
 pub mod KeptEnds
+pub mod Feeding

@@ -17,7 +17,8 @@ ghost use Rattle.yaml_scan.specs.AnswerLaws.{AnswersTellLexemes, AnswersTellAll,
 ghost use Rattle.yaml_scan.specs.Locality.{StepIsLocal, TokensBeforeRefusal, FaultBeforeRefusal, TextsAreLocal};
 ghost use Rattle.yaml_scan.specs.Locality.{TextsKeepOrder, TextStepIsLocal};
 ghost use Rattle.yaml_scan.specs.Fed.{CutsDoNotMatter};
-ghost use Rattle.yaml_scan.specs.Pieces.{PiecesGoOn};
+ghost use Rattle.yaml_scan.specs.FedCalls.{FedGoesOn};
+ghost use Rattle.yaml_scan.specs.Pieces.{PiecesGoOn, RefusedForGood};
 ghost use Rattle.yaml_scan.specs.Rests.{AllIsSettledAtRest, BeginningsAreShared};
 ghost use Rattle.yaml_scan.specs.inside.TextGoesOn.{RunningGoesOn};
 ghost use Rattle.yaml_scan.specs.Unfinished.{FaultGoesOn, StepsGoOn, TokensGoOn};
@@ -193,6 +194,17 @@ pub fn unfinished_input_goes_on()
     ensures tokens { TokensGoOn }
     ensures fault { FaultGoesOn }
     ensures bytes { PiecesGoOn }
+{}
+
+/// What is wrong with the bytes that came, if no bytes can mend it, is wrong with the whole input, whatever more comes. It
+/// is read as these bytes are.
+pub fn broken_input_stays_broken()
+    ensures { RefusedForGood }
+{}
+
+/// A parser that is given its input in pieces is one of the longer input too, once more of it came.
+pub fn more_comes()
+    ensures { FedGoesOn }
 {}
 
 /// Cuts do not matter: if each call gives the next tokens of every input that the bytes so far may begin, the tokens of

@@ -6,6 +6,7 @@ mod batch;
 mod calls;
 mod decider;
 mod depth;
+mod fed;
 mod flow;
 mod follower;
 mod give;
@@ -37,6 +38,7 @@ mod step;
 mod stop;
 
 pub use calls::{yaml_answer_t, yaml_call_t, yaml_run};
+pub use fed::{yaml_fed_parser_t, yaml_fed_scan_to, yaml_fed_t};
 pub use give::{yaml_scan_all, yaml_scan_all_limit, yaml_scan_next_to, yaml_scan_to};
 pub use keys::{KEY_LIMIT, MOST_KEY_LIMIT};
 pub use lent::yaml_lent_scalar_t;

@@ -1,5 +1,5 @@
 //! The queue: of each step, in order, what it hands out that was not taken.
-ghost use Rattle.std.specs.Prelude.{◌≡◌, ◌+◌, ◌-◌, ◌<◌, ◌∷◌, [], ◌&&◌, nat_eq, nat_lt, length, take, OnOk, List, ◌^◌};
+ghost use Rattle.std.specs.Prelude.{◌≡◌, ◌+◌, ◌-◌, ◌<◌, ◌∷◌, [], ◌&&◌, nat_eq, nat_lt, length, take, OnErr, OnOk, List, ◌^◌};
 ghost use Rattle.std.specs.Prelude.{true, false};
 ghost use Rattle.std.specs.VecDeque.{deque_capacity};
 ghost use Rattle.yaml_text.specs.declared.types.yaml_encoding_t.{yaml_encoding_t};
@@ -57,6 +57,8 @@ impl queue_t {
         ensures long { OnOk result (length self.new.groups.items ≡ 1) }
         ensures early { self.new.early ≡ self.old.early }
         ensures done { self.new.done ≡ self.old.done }
+        ensures mark { self.new.early_mark ≡ self.old.early_mark }
+        ensures same { OnErr result (self.new.groups.items ≡ self.old.groups.items) }
     {
         let zero = yaml_mark_t {
             index: 0,

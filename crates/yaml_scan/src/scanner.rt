@@ -1,12 +1,14 @@
 //! A scanner without an input: all that is kept between two calls, each of which is given the same input. It is public
 //! as `yaml_kept_parser_t`, what is kept of a parser whose input was let go.
 ghost use Rattle.std.specs.Prelude.{◌≡◌, ◌≤◌, ◌⊎◌, Some, Ok, true, false, [], List, ℕ, option_map, MatchResult};
-ghost use Rattle.yaml_text.specs.Decode.{front};
+ghost use Rattle.yaml_text.specs.Decode.{front, refusal as refusal_of};
+ghost use Rattle.yaml_text.specs.Decoding.{refusal_seen};
 ghost use Rattle.yaml_text.specs.Fault.{Fault, fault_of};
 ghost use Rattle.yaml_text.specs.Kept.{IsKeptOf};
 ghost use Rattle.yaml_text.specs.Text.{Text};
 ghost use Rattle.yaml_text.specs.Token.{Token, token_of};
 ghost use Rattle.yaml_text.specs.declared.fault.yaml_fault_t.{yaml_fault_t as code_fault_t};
+ghost use Rattle.yaml_text.specs.declared.types.yaml_encoding_t.{yaml_encoding_t};
 ghost use Rattle.yaml_scan.specs.Decoded.{decoded_input};
 ghost use Rattle.yaml_scan.specs.Headline.{Calls};
 ghost use Rattle.yaml_scan.specs.KeptCalls.{GivesMore, GivesToFault, HasNoMoreRoom, token_peeked};
@@ -47,6 +49,35 @@ pub struct scanner_t {
     pub(crate) session: session_t,
 }
 
+/// Makes the first step over a text, of which this is the refusal.
+#[inline(always)]
+pub(crate) fn begin_over(
+    state: &mut state_t,
+    text: &yaml_text_t,
+    refusal: Option<yaml_fault_t>,
+) -> Result<(), stop_t>
+    requires { (before : Text) → IsNew (scanner_of before state.old) }
+    ensures { (setting : yaml_encoding_t) (input : List ℕ) → text.now ≡ front setting input
+        → refusal_seen refusal ≡ refusal_of setting input → (before : Text) → MatchResult result
+        (λ _. Begins setting input (scanner_of before state.old) (scanner_of (front setting input) state.new)) (λ s.
+        (IsShort setting input (scanner_of before state.old) (fault_at s state.new.fault)
+        ⊎ IsEnded setting input (scanner_of before state.old) (scanner_of before state.new)
+        (fault_at s state.new.fault))
+        × IsStopped setting input (scanner_of before state.old) (scanner_of before state.new)) }
+{
+    let (encoding, len, near) = (text.encoding(), text.bytes().len(), near_of(text, refusal));
+    if let Some(fault) = near_start(refusal, near) {
+        state.fault = Some(fault);
+        return Err(stop_t::FAULT);
+    }
+    let queue = &mut state.layout.queue;
+    queue.put_stream_start(encoding, len)?;
+    state.fault = refusal;
+    state.near = near;
+    state.made = 1;
+    Ok(())
+}
+
 /// Decodes the input, and makes the first step. Returns what is kept of the text.
 #[inline(never)]
 pub(crate) fn begin(
@@ -70,19 +101,11 @@ pub(crate) fn begin(
             return Err(stop_t::FAULT);
         }
     };
-    let (encoding, len, near) = {
+    let begun = {
         let text = kept.view(input);
-        (text.encoding(), text.bytes().len(), near_of(&text, refusal))
+        begin_over(state, &text, refusal)
     };
-    if let Some(fault) = near_start(refusal, near) {
-        state.fault = Some(fault);
-        return Err(stop_t::FAULT);
-    }
-    let queue = &mut state.layout.queue;
-    queue.put_stream_start(encoding, len)?;
-    state.fault = refusal;
-    state.near = near;
-    state.made = 1;
+    begun?;
     Ok(kept)
 }
 
@@ -359,7 +382,11 @@ impl scanner_t {
     /// Gives the next tokens to a sink that has room for one, until the stream end was given or it has no room for the
     /// next token.
     #[inline(always)]
-    fn give<S: yaml_token_sink_t>(&mut self, input: &[u8], sink: &mut S) -> Result<(), stop_t>
+    pub(crate) fn give<S: yaml_token_sink_t>(
+        &mut self,
+        input: &[u8],
+        sink: &mut S,
+    ) -> Result<(), stop_t>
         requires is { IsScannerOf input.now self.old }
         requires still_open { self.old.session.over ≡ false }
         requires takes { S.may_refuse → ⊥ }

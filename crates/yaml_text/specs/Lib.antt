@@ -9,6 +9,7 @@ pub mod Text
 pub mod Fault
 pub mod Decode
 pub mod Decoding
+pub mod Pieces
 pub mod Kept
 pub mod MarkOn
 pub mod Mark

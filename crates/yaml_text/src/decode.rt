@@ -39,8 +39,11 @@ fn quick_len(bytes: &[u8]) -> usize
     run + whole_len(rest(bytes, run))
 }
 
-/// How many bytes the front of a text has, and what is wrong after it.
-fn front8(bytes: &[u8]) -> (usize, Option<offence_t>)
+/// How many bytes the front of a text has, and what is wrong after it. The first `known` bytes are known to be text, and
+/// are not looked at.
+pub(crate) fn front8(bytes: &[u8], known: usize) -> (usize, Option<offence_t>)
+    requires part { known ≤ length bytes.now }
+    requires known { IsText (take known bytes.now) }
     ensures within { result.0 ≤ length bytes.now }
     ensures text { IsText (take result.0 bytes.now) }
     ensures longest { BeginsWithNone YAML_UTF8_ENCODING (drop result.0 bytes.now) }
@@ -48,7 +51,7 @@ fn front8(bytes: &[u8]) -> (usize, Option<offence_t>)
     ensures offence { IfSome result.1 (λ o. o ≡ offence8 (drop result.0 bytes.now)) }
     ensures left { IfSome result.1 (λ o. result.0 + o.offset < length bytes.now) }
 {
-    let mut at = quick_len(bytes);
+    let mut at = known + quick_len(rest(bytes, known));
     while at < bytes.len() {
         match first_char(rest(bytes, at)) {
             Ok(width) => at += width,
@@ -61,7 +64,7 @@ fn front8(bytes: &[u8]) -> (usize, Option<offence_t>)
 
 /// The encoding that is set, or else that of the byte order mark, or else UTF-8; and how many bytes of such a
 /// mark are dropped.
-fn find_encoding(setting: yaml_encoding_t, input: &[u8]) -> (yaml_encoding_t, usize)
+pub(crate) fn find_encoding(setting: yaml_encoding_t, input: &[u8]) -> (yaml_encoding_t, usize)
     ensures encoding { result.0 ≡ encoding_of setting input.now }
     ensures bom_len { result.1 ≡ bom_len setting input.now }
     ensures within { result.1 ≤ length input.now }
@@ -101,7 +104,7 @@ fn front_in_utf8(input: &[u8], before: usize) -> (yaml_kept_text_t, Option<yaml_
     requires { before ≤ length input.now }
     ensures { KeepsFront YAML_UTF8_ENCODING before input.now result.0 (refusal_seen result.1) }
 {
-    let (len, offence) = front8(rest(input, before));
+    let (len, offence) = front8(rest(input, before), 0);
     (kept_part(before, len), refusal(before + len, offence))
 }
 

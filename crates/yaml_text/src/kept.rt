@@ -67,6 +67,23 @@ impl yaml_kept_text_t {
         }
     }
 
+    /// Where the part of the input begins that is kept, and how many bytes it has.
+    #[inline(always)]
+    pub(crate) fn place(&self) -> (usize, usize)
+        ensures start { result.0 ≡ self.now.start }
+        ensures len { result.1 ≡ self.now.len }
+    {
+        (self.start, self.len)
+    }
+
+    /// Keeps a part of the input with so many bytes, which begins where it did.
+    #[inline(always)]
+    pub(crate) fn lengthen(&mut self, len: usize)
+        ensures { self.new ≡ record self.old { len = len } }
+    {
+        self.len = len;
+    }
+
     /// The text, over the same input. It has the bytes that were kept, or borrows the input.
     #[inline(always)]
     pub(crate) fn into_text<'a>(self, input: &'a [u8]) -> yaml_text_t<'a>

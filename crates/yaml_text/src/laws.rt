@@ -9,6 +9,7 @@ ghost use Rattle.yaml_text.specs.Text.{Text};
 ghost use Rattle.yaml_text.specs.Fault.{Fault, fault_of};
 ghost use Rattle.yaml_text.specs.Decode.{spellings};
 ghost use Rattle.yaml_text.specs.Decoding.{IsFront, Spells, IsRefused, decoding};
+ghost use Rattle.yaml_text.specs.Pieces.{StandsIn, StaysBroken};
 ghost use Rattle.yaml_text.specs.MarkOn.{mark_on};
 ghost use Rattle.yaml_text.specs.Mark.{cuts_break, mark_of};
 ghost use Rattle.yaml_text.specs.Types as numbers;
@@ -36,6 +37,17 @@ pub fn one_reading()
     ensures longest { (e : yaml_encoding_t) (bytes chars rest cs more : List ℕ)
         → IsFront e bytes chars rest → AreChars cs → bytes ≡ spellings e cs ++ more
         → length cs ≤ length chars }
+{}
+
+/// What is wrong after the front of the bytes that came, and no bytes can mend, is wrong of every input that goes on from
+/// them, in the same place and after the same front.
+pub fn broken_input_stays_broken()
+    ensures { StaysBroken }
+{}
+
+/// The UTF-8 of characters with the byte FF after it decodes to these characters, and is refused for that byte.
+pub fn stand_in_is_refused()
+    ensures { StandsIn }
 {}
 
 /// A mark that is moved character by character is the one that is counted from the front, at every place that

@@ -11,6 +11,7 @@ mod kept;
 pub mod laws;
 mod mark;
 mod offence;
+mod pieces;
 mod text;
 mod token;
 mod types;
@@ -25,6 +26,7 @@ pub use decode::{yaml_decode, yaml_decode_front, yaml_encoding_of};
 pub use fault::{make_memory_fault, make_scanner_fault, yaml_fault_t};
 pub use kept::yaml_kept_text_t;
 pub use mark::{yaml_index_from_end, yaml_is_place, yaml_mark_at};
+pub use pieces::yaml_fault_to_come;
 pub use text::yaml_text_t;
 pub use token::{unnamed_yaml_token_t_data, yaml_token_t};
 pub use types::{

@@ -97,7 +97,7 @@ refused_not_none limit input f (at_once b s e) n = some_not_none _ (sym e ∙ n)
 refused_not_none limit input f (near b s e) n = some_not_none _ (sym e ∙ n)
 refused_not_none limit input f (far o b s p e) n = some_not_none _ (sym e ∙ n)
 
-accepted : (limit : ℕ) (input : Input) → KeepsOrder input.source → (course limit input).fault ≡ None → (o : Option Fault) → input.refusal ≡ o → input.refusal ≡ None
+pub accepted : (limit : ℕ) (input : Input) → KeepsOrder input.source → (course limit input).fault ≡ None → (o : Option Fault) → input.refusal ≡ o → input.refusal ≡ None
 accepted limit input k n None q = q
 accepted limit input k n (Some f) q = absurd (refused_not_none limit input f (refused_has_fault limit input f k q) n)
 

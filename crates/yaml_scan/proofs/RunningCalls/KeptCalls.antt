@@ -32,7 +32,7 @@ use Rattle.yaml_scan.specs.inside.Scanning as Scanning
 use Rattle.yaml_scan.specs.inside.Kept.{IsKept, IsPartOf, IsScannerOf, scan_of}
 use Rattle.yaml_scan.specs.inside.KeptEnds.{KeepsText}
 use Rattle.yaml_scan.specs.inside.KeptEnds as KeptEnds
-use Rattle.yaml_scan.specs.inside.KeptParts.{EndsNow, GivesAllOn, GoesOnTo, HasBegun, HasSettled, SendsNext, ShowsTo, StopsAfter, StopsNow, on_to}
+use Rattle.yaml_scan.specs.inside.KeptParts.{EndsNow, GivesAllOn, GoesOnTo, HasBegun, HasSettled, SendsNext, ShowsTo, StopsNow, on_to}
 use Rattle.yaml_scan.specs.inside.Ready.{Begins, IsEnded, IsNew, IsShort, IsStopped, Scan, Sound, ended_by, fault_in, parser_of, scanner_in, with_session}
 use Rattle.yaml_scan.specs.inside.Scanner.{Scanner, scanner_of}
 use Rattle.yaml_scan.specs.inside.Shown.{Shows}
@@ -83,7 +83,7 @@ module _ (i : Scan) (v : Sound i) (o : i.session.over ≡ false) where
 
     pub stops_first : (state : state_t) (f : Fault) → IsShort i.setting i.input (scanner_in i) f ⊎ IsEnded i.setting i.input (scanner_in i) (scanner_of (front i.setting i.input) state) f
         → IsStopped i.setting i.input (scanner_in i) (scanner_of (front i.setting i.input) state) → StopsNow i (on_to i.session state) f
-    stops_first state f w z = record { sound = v; still_open = o; not_peeked = not_peeked i.session.peeked refl; why = w; stopped = z }
+    stops_first state f w z = record { sound = v; still_open = o; not_peeked = not_peeked i.session.peeked refl; why = w; stopped = z; rest = refl }
 
   -- it was
   pub begun_before : 0 < i.session.state.made → HasBegun i (front i.setting i.input) i.session
@@ -171,25 +171,26 @@ module _ (i : Scan) (s : session_t) (w : yaml_fault_t) (f : Fault) (d : fault_of
   pub ends_now : EndsNow i ended
   ends_now = record { fault = w; kept = refl; not_peeked = k.not_peeked; call = peek_ends }
 
--- after some tokens
-module _ (i : Scan) (s : session_t) (tokens : List yaml_token_t) (w : yaml_fault_t) (f : Fault) (d : fault_of w ≡ f) (e : StopsAfter i s tokens f) (o : i.session.over ≡ false) (took : List yaml_token_t → Type 0) (given : took tokens) where
+-- after some tokens, in the session `then`
+module _ (i : Scan) (s : session_t) (tokens : List yaml_token_t) (w : yaml_fault_t) (f : Fault) (d : fault_of w ≡ f) (then : session_t) (n : StopsNow (with_session i then) s f)
+    (on : GoesOnBy (parser_of i) tokens (parser_of (with_session i then)) false) (first : ComesFirst (token_peeked (parser_of i)) tokens (parser_of (with_session i then))) (o : i.session.over ≡ false) (took : List yaml_token_t → Type 0) (given : took tokens) where
   abbrev last : Parser
-  last = parser_of (with_session i e.last)
+  last = parser_of (with_session i then)
 
   abbrev q : Parser
   q = parser_of (with_session i (ended_by s w))
 
   pub scan_to_fault : GivesToFault SCAN (parser_of i) q took (fault_of w)
-  scan_to_fault = let P = parser_of i in let z = scan_ends (with_session i e.last) s w f d e.stops in record {
+  scan_to_fault = let P = parser_of i in let z = scan_ends (with_session i then) s w f d n in record {
     still_open = o;
     input = refl;
     tokens = tokens;
     given = given;
     last = last;
-    on = e.on;
+    on = on;
     ended = z;
-    reads = λ before h. scans_fault P.limit P.setting P.input last (before ++ tokens) (e.on before h) w q z;
-    first = first_at_end (token_peeked P) tokens last q (let n = e.stops in n.not_peeked) e.first;
+    reads = λ before h. scans_fault P.limit P.setting P.input last (before ++ tokens) (on before h) w q z;
+    first = first_at_end (token_peeked P) tokens last q n.not_peeked first;
   }
 
 pub peek_to_fault : (i j : Scan) → j.input ≡ i.input → i.session.over ≡ false → (e : EndsNow i j) → GivesToFault PEEK (parser_of i) (parser_of j) (λ tokens. tokens ≡ []) (fault_of e.fault)
@@ -265,7 +266,7 @@ module _ (input : List ℕ) (k l : scanner_t) (same : l.setting ≡ k.setting) (
   pub gives_to_fault : (tokens : List yaml_token_t) → GoesOnBy (parser_of (scan_of input k)) tokens (parser_of (with_session (scan_of input k) last)) false → ComesFirst (token_peeked (parser_of (scan_of input k))) tokens (parser_of (with_session (scan_of input k) last))
       → k.session.over ≡ false → (took : List yaml_token_t → Type 0) → took tokens → GivesToFault SCAN (parser_of (scan_of input k)) Q took (fault_of w)
   gives_to_fault tokens on first o took given = at_end (λ q. GivesToFault SCAN (parser_of (scan_of input k)) q took (fault_of w))
-      (scan_to_fault (scan_of input k) l.session tokens w f d (record { last = last; stops = n; on = on; first = first }) o took given)
+      (scan_to_fault (scan_of input k) l.session tokens w f d last n on first o took given)
 
 -- THE NEXT TOKEN IS AT THE HEAD OF THE QUEUE
 -- it was shown before

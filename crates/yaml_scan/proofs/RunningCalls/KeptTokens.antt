@@ -32,12 +32,13 @@ use Rattle.yaml_scan.specs.inside.Scanner.{Scanner, scanner_of}
 use Rattle.yaml_scan.specs.inside.Scanning.{Fails, Settles, Stops, history}
 use Rattle.yaml_scan.specs.inside.Sent.{HasSent, HasSentOrSettled}
 use Rattle.yaml_scan.specs.inside.Stop.{fault_at}
-use Rattle.yaml_scan.proofs.RunningCalls.CallAnswers.{head_shown, last_is, none_failed, open_as, open_u, scan_shown, show_token, shown_as, shown_session, shown_settled, stands_u, take_left_of, take_told_of, token_some}
+use Rattle.yaml_scan.proofs.RunningCalls.CallAnswers.{head_shown, last_is, none_failed, token_next, token_told, open_as, open_u, scan_shown, show_token, shown_as, shown_session, shown_settled, stands_u, take_left_of, take_told_of, token_some}
 use Rattle.yaml_scan.proofs.RunningCalls.ParserInvariant.{Keeps}
 use Rattle.yaml_scan.proofs.RunningCalls.KeptGoesOn.{first_more, first_unless, first_when, is_shown, left_by_peek, on_more, on_none, peeks_on}
 use Rattle.yaml_scan.proofs.RunningCalls.ParserInvariant.{keeps_sent, keeps_settled, keeps_taken, reach_in, stands_ready}
 use Rattle.yaml_scan.proofs.RunningCalls.ScansToTheEnd.{scans_on}
-use Rattle.yaml_scan.proofs.RunningCalls.SeveralScans.{several_scans}
+use Rattle.yaml_scan.proofs.RunningCalls.HandedOn.{hands_more, hands_none, hands_one}
+use Rattle.yaml_scan.proofs.RunningCalls.SeveralScans.{more_is, several_scans}
 use Rattle.yaml_scan.proofs.RunningCalls.ToNextToken.{begun_is, course_is, ended_in, settled_in, started_before, stopped_in}
 use Rattle.yaml_scan.proofs.RunningQueue.QueueGroups.{IsFirst}
 use Rattle.yaml_scan.proofs.RunningQueue.StepsWaiting.{done_is}
@@ -62,6 +63,7 @@ begun_again i T s tokens e g o = let j = with_session i s in let v = g.sound in 
 pub goes_more : (i j k : Scan) (xs ys : List yaml_token_t) → GoesOnTo i j xs → j.session.over ≡ false → GoesOnTo j k ys → GoesOnTo i k (xs ++ ys)
 goes_more i j k xs ys a o b = record {
   sound = b.sound;
+  hands = hands_more i j k xs ys a.hands b.hands;
   begun = b.begun;
   on = on_more (parser_of i) (parser_of j) (parser_of k) xs ys k.session.over (subst (λ (z : Bool). GoesOnBy (parser_of i) xs (parser_of j) z) o a.on) b.on;
   first = first_more (token_peeked (parser_of i)) xs ys (parser_of j) (parser_of k) a.first b.first;
@@ -69,12 +71,13 @@ goes_more i j k xs ys a o b = record {
 
 -- no token was given before it stopped
 pub stops_after : (i : Scan) (s : session_t) (f : Fault) → StopsNow i s f → StopsAfter i s [] f
-stops_after i s f n = record { last = i.session; stops = n; on = on_none (parser_of i); first = first_unless (parser_of i) (parser_of i) [] n.not_peeked }
+stops_after i s f n = record { last = i.session; hands = hands_none i i refl refl refl refl n.still_open; stops = n; on = on_none (parser_of i); first = first_unless (parser_of i) (parser_of i) [] n.not_peeked }
 
 -- some were
 pub stops_later : (i : Scan) (m s : session_t) (xs ys : List yaml_token_t) (f : Fault) → GoesOnTo i (with_session i m) xs → m.over ≡ false → StopsAfter (with_session i m) s ys f → StopsAfter i s (xs ++ ys) f
 stops_later i m s xs ys f a o b = let j = with_session i m in record {
   last = b.last;
+  hands = hands_more i j (with_session i b.last) xs ys a.hands b.hands;
   stops = b.stops;
   on = on_more (parser_of i) (parser_of j) (parser_of (with_session i b.last)) xs ys false (subst (λ (z : Bool). GoesOnBy (parser_of i) xs (parser_of j) z) o a.on) b.on;
   first = first_more (token_peeked (parser_of i)) xs ys (parser_of j) (parser_of (with_session i b.last)) a.first b.first;
@@ -120,6 +123,7 @@ settles_next i s state b n (Err stop) w =
         | inr f ↦ inr (ended_in i.setting i.input (scanner_in i) a t b.started (fault_at stop state.fault) f)
       ];
       stopped = stopped_in i.setting i.input (scanner_in i) a t b.started w.1;
+      rest = ap (λ (z : session_t). on_to z state) b.rest;
     }
 
 -- why no more go to a sink that has no room for a token
@@ -187,6 +191,7 @@ module _ (i : Scan) (state : state_t) (k : HasSettled i (front i.setting i.input
           queued = (let a = waits.queued in let b = n.done in omega arith);
           few = waits.few;
         };
+        hands = hands_none i (with_session i showing) refl refl n.limit n.taken k.still_open;
         begun = n.stands.runs.begun;
         on = λ given h. subst (λ (b : Bool). Scanned P.limit P.setting P.input Q (given ++ []) b) (sym k.still_open)
             (peeks_on P.limit P.setting P.input P Q given h (left_by_peek P Q (token_shown Q) call_shown) k.still_open n.taken (token_some i.setting i.input s t n).0 (token_some i.setting i.input s t n).1 n.made);
@@ -251,6 +256,7 @@ module _ (i : Scan) (state : state_t) (k : HasSettled i (front i.setting i.input
         queued = waits_then.queued;
         few = waits_then.few;
       };
+      hands = hands_one i (with_session i taking) x p.token refl refl (p.limit ∙ n.limit) (let a = p.taken in let d = n.taken in omega arith) (token_next i.setting i.input s t u x n p) (token_told i.setting i.input s t u x n p) (λ e. sym (last_is i.setting i.input s t u x n p) ∙ e);
       begun = b.runs.begun;
       on = λ given h. (scans_on P.limit P.setting P.input P given h x R over refl call).0;
       first = first_when P R (x ∷ []) (λ e. taken_shown ∙ shown_before e);
@@ -315,6 +321,14 @@ gives_sent i state tokens v o peeked k =
         queued = n.queued;
         few = n.few;
       };
+      hands = record {
+        setting = refl;
+        input = refl;
+        limit = k.limit;
+        taken = k.taken;
+        next = sym (more_is i.session.state.limit i.setting i.input s t tokens k refl);
+        all = λ e. absurd (false≢true (sym o ∙ e));
+      };
       begun = k.stands.runs.begun;
       on = subst (λ (b : Bool). GoesOnBy (parser_of i) tokens r b) (sym o) (subst (λ (z : Parser). GoesOnBy (parser_of i) tokens z false) same
           (λ given h. several_scans i.session.state.limit i.setting i.input s t tokens k refl (parser_of i) given h refl refl));
@@ -337,7 +351,7 @@ sends_next i T s state took refuses (Ok false) b n never w =
 sends_next i T s state took refuses (Err stop) b n never (inr r) = absurd (never r)
 sends_next i T s state took refuses (Err stop) b n never (inl w) =
     let e : T ≡ front i.setting i.input = b.started.stands.text in (
-      record { sound = b.sound; still_open = b.still_open; not_peeked = n; why = why_at e w.0; stopped = subst (λ (z : Text). IsStopped i.setting i.input (scanner_in i) (scanner_of z state)) e w.1 },
+      record { sound = b.sound; still_open = b.still_open; not_peeked = n; why = why_at e w.0; stopped = subst (λ (z : Text). IsStopped i.setting i.input (scanner_in i) (scanner_of z state)) e w.1; rest = ap (λ (z : session_t). on_to z state) b.rest },
       w.2,
     )
   where

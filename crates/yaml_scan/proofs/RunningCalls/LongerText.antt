@@ -1,22 +1,27 @@
 -- A running scanner of an unfinished text is a running scanner of every text that goes on from it.
-use Rattle.std.proofs.Common.{◌≡◌, ℕ, suc, ◌+◌, ◌-◌, ◌≤◌, true, List, [], ◌∷◌, ◌++◌, drop, length, Option, ap, sym, ◌∙◌, subst, arith, inr}
+use Rattle.std.proofs.Common.{◌≡◌, ℕ, suc, ◌+◌, ◌-◌, ◌≤◌, ◌<◌, true, List, [], ◌∷◌, ◌++◌, append_assoc, drop, length, Option, refl, ap, sym, ◌∙◌, subst, arith, inr}
 use Rattle.std.proofs.lemmas.List.{length-append}
 use Rattle.yaml_text.specs.Text.{Text}
 use Rattle.yaml_text.specs.declared.fault.yaml_fault_t.{yaml_fault_t}
 use Rattle.yaml_lexeme.specs.Counted.{IsMarkOf}
-use Rattle.yaml_scan.specs.Course.{next, oldest, course}
+use Rattle.yaml_scan.specs.Course.{ended, next, oldest, course}
 use Rattle.yaml_scan.specs.Cut.{IsRun, KeepsOrder}
 use Rattle.yaml_scan.specs.Falling.{AllLess}
+use Rattle.yaml_scan.specs.Groups.{offline}
 use Rattle.yaml_scan.specs.Laid.{Laid}
+use Rattle.yaml_scan.specs.Order.{IsHistory}
+use Rattle.yaml_scan.specs.Settled.{before}
 use Rattle.yaml_scan.specs.SourceOf.{source_of}
 use Rattle.yaml_scan.specs.Step.{place_after}
 use Rattle.yaml_scan.specs.Unfinished.{GoesOnFrom}
 use Rattle.yaml_scan.specs.inside.Scanner.{Scanner}
-use Rattle.yaml_scan.specs.inside.Scanning.{IsRunning, HoldsWith, groups_in, input_of, course_of, history}
+use Rattle.yaml_scan.specs.inside.Scanning.{IsOpen, IsRunning, HoldsWith, groups_in, input_of, course_of, history}
 use Rattle.yaml_scan.specs.inside.TextGoesOn.{RunningGoesOn, TextGoesOn, over_text}
 use Rattle.yaml_scan.proofs.Course.CourseSteps.{course_is_run}
 use Rattle.yaml_scan.proofs.Course.StepsNeeded.{split}
-use Rattle.yaml_scan.proofs.RunningCalls.NextOfInput.{inside}
+use Rattle.yaml_scan.proofs.RunningCalls.NextOfInput.{inside, read_history}
+use Rattle.yaml_scan.proofs.RunningCalls.SentTokens.{more_settled}
+use Rattle.yaml_scan.proofs.TokenList.OneLexemeMore.{all_is_handed_out}
 use Rattle.yaml_scan.proofs.Texts.SourceLocality.{begun_text_reads_same, no_shorter}
 use Rattle.yaml_scan.proofs.Texts.SourceOrder.{texts_keep_order}
 use Rattle.yaml_scan.proofs.Texts.UnfinishedInputs.{course_goes_on, far_place}
@@ -122,6 +127,31 @@ module _ (s : Scanner) (text : Text) (refusal : Option yaml_fault_t) (near : ℕ
     start = started;
     within = enough;
   }
+
+  -- the stream end was not taken
+  older : (Y P : List Laid) → IsHistory s.limit (Y ++ P) → 0 < length Y → history s ≡ P → ended (Y ++ P) ≡ true → s.taken < length (offline (Y ++ P))
+  older Y P h l e end =
+      let g : IsHistory s.limit P = subst (λ (X : List Laid). IsHistory s.limit X) e r.holds.is_history in
+      let n = more_settled s.limit Y P h g l (all_is_handed_out s.limit (Y ++ P) h end).1 in
+      let a = r.holds.taken in
+      let b = ap (λ (X : List Laid). length (before s.limit X)) e in
+      omega arith
+
+  later : (Y R : List Laid) → IsHistory s.limit (Y ++ R) → s.made - 1 ≤ length R → history s ≡ oldest (s.made - 1) R → (ended R ≡ true → s.taken < length (offline R)) → ended (Y ++ R) ≡ true → s.taken < length (offline (Y ++ R))
+  later [] R h l e o end = o end
+  later (y ∷ Y) R h l e o end =
+      let z = split R (s.made - 1) l in
+      let P = oldest (s.made - 1) R in
+      let w : y ∷ Y ++ R ≡ (y ∷ Y ++ z.0) ++ P = ap (λ (X : List Laid). y ∷ Y ++ X) z.1 ∙ sym (append_assoc (y ∷ Y) z.0 P) in
+      subst (λ (X : List Laid). s.taken < length (offline X)) (sym w) (older (y ∷ Y ++ z.0) P (subst (λ (X : List Laid). IsHistory s.limit X) w h) (omega arith) e (sym (ap ended w) ∙ end))
+
+  pub still_open : IsOpen s → IsOpen t
+  unfolding history course_of
+  still_open o = λ end.
+      let R = (course s.limit (input_of s)).read in
+      let Y = on.1.0 in
+      let w = on.1.1 in
+      subst (λ (X : List Laid). s.taken < length (offline X)) (sym w) (later Y R (subst (λ (X : List Laid). IsHistory s.limit X) w (read_history t runs)) within refl o (sym (ap ended w) ∙ end))
 
 pub running_goes_on : RunningGoesOn
 running_goes_on s text refusal near r g = (runs s text refusal near r g, history_same s text refusal near r g)

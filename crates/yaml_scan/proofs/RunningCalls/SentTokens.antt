@@ -28,7 +28,7 @@ use Rattle.yaml_scan.proofs.RunningCalls.StepsMade.{Goes, fails, goes_on, open_t
 
 -- HOW MANY TOKENS ARE SETTLED
 -- if all tokens of some lexemes are settled, they are more than those that fewer lexemes settle
-more_settled : (limit : ℕ) (Y P : List Laid) → IsHistory limit (Y ++ P) → IsHistory limit P → 0 < length Y → before limit (Y ++ P) ≡ offline (Y ++ P) → length (before limit P) < length (offline (Y ++ P))
+pub more_settled : (limit : ℕ) (Y P : List Laid) → IsHistory limit (Y ++ P) → IsHistory limit P → 0 < length Y → before limit (Y ++ P) ≡ offline (Y ++ P) → length (before limit P) < length (offline (Y ++ P))
 unfolding offline
 more_settled limit Y P h g y w = elim (cases_lt (length (before limit P)) (length (offline (Y ++ P)))) [
   | inl l ↦ l

@@ -187,7 +187,7 @@ module _ (limit : ℕ) (setting : yaml_encoding_t) (input : List ℕ) (s t : Sca
       ∙ ap (λ (z : List Token). map (handed_out t.text.encoding) (take s.taken z) ++ tokens) all_is
       ∙ ap (λ (x : yaml_encoding_t). map (handed_out x) front ++ tokens) encoding_is
 
-  more_is : map (handed_out I.encoding) more ≡ tokens
+  pub more_is : map (handed_out I.encoding) more ≡ tokens
   more_is =
       let a : take t.taken L ≡ front ++ more = ap (λ (n : ℕ). take n L) k.taken ∙ take-more s.taken (length tokens) L in
       append_cancel_left (map (handed_out I.encoding) front) (map (handed_out I.encoding) more) tokens

@@ -109,6 +109,10 @@ module _ (s t : Scanner) (r : IsRunning t) (S : Same s t) where
         most = (let m = k.made in omega arith);
         unsettled = (let m = ap (λ (n : ℕ). length (before n (first_steps t.made (course_of t).read))) S.limit in let n = ap (λ (X : List Laid). length (before s.limit X)) h in let v = S.taken in omega arith);
         reach = k.reach ∙ r.holds.reach ∙ ap reach (sym h);
+        last = t;
+        runs = r;
+        same = S;
+        halts = k;
       }
 
 pub least_pace : (s : Scanner) → s.made ≤ pace s.limit (course_of s).read s.taken s.made

@@ -9,8 +9,8 @@ use Rattle.yaml_scan.specs.Settled.{before}
 use Rattle.yaml_scan.specs.Settled.{settled, steps_for, pace, first_steps, tokens_of}
 use Rattle.yaml_scan.specs.Session.{all_steps}
 use Rattle.yaml_scan.specs.Decoded.{decoded_input}
-use Rattle.yaml_scan.specs.inside.Scanning.{Settles, Fails, Stops, Same, course_of, input_of}
-use Rattle.yaml_scan.specs.inside.Ready.{IsNew, IsReady, Begins, IsStarted, IsSettled, IsStopped, IsEnded, course_in}
+use Rattle.yaml_scan.specs.inside.Scanning.{IsOpen, IsRunning, Settles, Fails, Stops, Same, course_of, input_of}
+use Rattle.yaml_scan.specs.inside.Ready.{IsIn, IsNew, IsReady, Begins, IsStarted, IsSettled, IsStopped, IsEnded, course_in}
 use Rattle.yaml_scan.specs.Token.{yaml_token_t}
 use Rattle.std.specs.Prelude.{Result, Ok, Err}
 use Rattle.yaml_scan.specs.declared.stop.stop_t.{stop_t}
@@ -72,8 +72,11 @@ module _ (setting : yaml_encoding_t) (input : List ℕ) (s t u : Scanner) (b : I
       let l = k.unsettled in
       both_false _ _ (le-ltb s.taken (length (before s.limit (first_steps u.made (course_in s.limit setting input).read))) (omega arith))
 
+  last_in : (l : Scanner) → IsRunning l → Same t l → IsIn setting input l × IsOpen l
+  last_in l r k = (record { runs = r; reads = (rw (k.text, k.refusal) refl) ∙ b.stands.reads; text = k.text ∙ b.stands.text }, open_too t l r k b.still_open)
+
   pub stopped_in : Stops t u → IsStopped setting input s u
-  stopped_in k = let p = pace_is in let m = b.made in let l = k.least in let n = k.most in record { limit = k.limit ∙ b.limit; taken = k.taken ∙ b.taken; done = k.done ∙ b.done; least = omega arith; most = omega arith; unsettled = unsettled_in k; reach = k.reach ∙ ap (λ (x : Course). reach (first_steps u.made x.read)) course_t }
+  stopped_in k = let p = pace_is in let m = b.made in let l = k.least in let n = k.most in record { limit = k.limit ∙ b.limit; taken = k.taken ∙ b.taken; done = k.done ∙ b.done; least = omega arith; most = omega arith; unsettled = unsettled_in k; reach = k.reach ∙ ap (λ (x : Course). reach (first_steps u.made x.read)) course_t; last = k.last; ready = inr (last_in k.last k.runs k.same); halts = k.halts }
 
   pub begun_is : (course_in s.limit setting input).begun ≡ true
   begun_is = sym (ap (λ (c : Course). c.begun) course_t) ∙ b.stands.runs.start

@@ -89,7 +89,7 @@ new_reach s n H = let m = n.made in n.reach ∙ ap reach (sym (first_none s.made
 
 pub new_stopped : (setting : yaml_encoding_t) (input : List ℕ) (s : Scanner) → IsNew s → IsStopped setting input s s
 unfolding pace
-new_stopped setting input s n = record { limit = refl; taken = refl; done = refl; least = omega arith; most = omega arith; unsettled = (let m = n.made in rw m refl); reach = new_reach s n (course_in s.limit setting input).read }
+new_stopped setting input s n = record { limit = refl; taken = refl; done = refl; least = omega arith; most = omega arith; unsettled = (let m = n.made in rw m refl); reach = new_reach s n (course_in s.limit setting input).read; last = s; ready = inl n; halts = record { text = refl; near = refl; limit = refl; outer = refl; empty = refl; top = refl; awaited = refl; allowed = refl; levels = refl; groups = refl; done = refl; early = refl; early_mark = refl; reach = refl; taken = refl; made = refl } }
 
 pub new_ended : (setting : yaml_encoding_t) (input : List ℕ) (s : Scanner) → IsNew s → (text : Text) → text ≡ front setting input → (r : Option Fault) → r ≡ refusal setting input → (near : ℕ) → IsNearOf r text.chars near → (f : Fault) → near_fault near 0 r ≡ Some f → IsEnded setting input s s f
 new_ended setting input s n text T r R near N f e =

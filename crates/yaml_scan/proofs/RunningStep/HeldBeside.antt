@@ -7,7 +7,7 @@ use Rattle.yaml_scan.specs.Laid.{Laid}
 use Rattle.yaml_scan.specs.Order.{IsHistory}
 use Rattle.yaml_scan.specs.Settled.{before}
 use Rattle.yaml_scan.specs.inside.Holding.{HoldsKeys, HoldsLevels, HoldsQueue}
-use Rattle.yaml_scan.specs.inside.Scanning.{Beside, Holds, HoldsWith, Stays, at_marks, counted, groups_in}
+use Rattle.yaml_scan.specs.inside.Scanning.{Beside, Halts, Holds, HoldsWith, Stays, at_marks, counted, groups_in}
 
 -- one whose queue is another
 pub holds_as : (H : List Laid) (n : ℕ) (s t : Scanner) {ys zs : List group_t} → HoldsWith H n s ys → t.text ≡ s.text → t.limit ≡ s.limit → t.slots ≡ s.slots → t.allowed ≡ s.allowed
@@ -63,4 +63,25 @@ pub marks_stay : (s : Scanner) (gap_end there : yaml_mark_t) → Stays s (at_mar
 marks_stay s gap_end there = record {
   same = record { text = refl; refusal = refl; near = refl; limit = refl; taken = refl; done = refl };
   halts = record { text = refl; near = refl; limit = refl; outer = refl; empty = refl; top = refl; awaited = refl; allowed = refl; levels = refl; groups = refl; done = refl; early = refl; early_mark = refl; reach = refl; taken = refl; made = refl };
+}
+
+-- what a scanner that has stopped has left is held
+pub holds_halted : (H : List Laid) (n : ℕ) (s t : Scanner) → Halts s t → Holds H n s → Holds H n t
+holds_halted H n s t b h = let k = h.keys in let q = h.queue in record {
+  text = rw b.text h.text;
+  is_history = rw b.limit h.is_history;
+  number = h.number;
+  keys = record {
+    fresh = rw b.limit k.fresh;
+    outer = rw (b.outer, b.limit) k.outer;
+    empty = rw (b.empty, b.outer) k.empty;
+    top = rw (b.top, b.limit) k.top;
+    awaited = rw (b.awaited, b.outer, b.top) k.awaited;
+    allowed = rw b.allowed k.allowed;
+  };
+  levels = rw (b.text, b.levels) h.levels;
+  queue = record { tokens = rw (b.text, b.early, b.early_mark, b.groups, b.taken) q.tokens; count = rw (b.done, b.groups) q.count; early = rw b.early q.early };
+  reach = rw b.reach h.reach;
+  taken = rw (b.taken, b.limit) h.taken;
+  place = rw (b.text, b.reach) h.place;
 }

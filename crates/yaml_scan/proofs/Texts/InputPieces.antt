@@ -1,13 +1,14 @@
 -- What is settled of the bytes that came so far is that of every input that goes on from them.
-use Rattle.std.proofs.Common.{◌≡◌, ℕ, zero, suc, ◌≤◌, Bool, true, false, List, [], ◌∷◌, ◌++◌, drop, length, Option, Some, refl, ap, sym, ◌∙◌, subst, arith, inl, inr, append_assoc}
-use Rattle.std.specs.Prelude.{◌⊎◌, ◌&&◌, ◌==◌, slice_index, if◌then◌else◌}
+use Rattle.std.proofs.Common.{◌≡◌, ℕ, Bool, true, false, List, [], ◌∷◌, ◌++◌, drop, length, Option, Some, refl, ap, sym, ◌∙◌, subst, arith, inl, inr, append_assoc}
+use Rattle.std.specs.Prelude.{◌⊎◌}
 use Rattle.std.proofs.lemmas.Bool.{cases_Bool, le-leb, false≢true}
 use Rattle.yaml_text.specs.Fault.{Fault}
 use Rattle.yaml_text.specs.declared.types.yaml_encoding_t.{yaml_encoding_t}
 use Rattle.yaml_text.specs.declared.types.yaml_encoding_t.TheVariants.{YAML_ANY_ENCODING, YAML_UTF8_ENCODING, YAML_UTF16LE_ENCODING, YAML_UTF16BE_ENCODING}
-use Rattle.yaml_text.specs.Decode.{front, front_len, encoding_of, begins_with, bom_len, after_bom, spelling, spellings}
+use Rattle.yaml_text.specs.Decode.{front, front_len, encoding_of, after_bom, spelling, spellings}
 use Rattle.yaml_text.specs.Decoding.{BeginsWithNone, IsFront}
 use Rattle.yaml_text.specs.TextBytes.{AreChars}
+use Rattle.yaml_text.proofs.Decodings.BrokenBytes.{is_more, stays_broken}
 use Rattle.yaml_text.proofs.Decodings.DecodeReadings.{spellings-cons, spellings-nil, spelling_same}
 use Rattle.yaml_text.proofs.Decodings.DecodeResults.{front_is}
 use Rattle.yaml_scan.specs.Answers.{answers}
@@ -15,7 +16,7 @@ use Rattle.yaml_scan.specs.Begins.{Begins}
 use Rattle.yaml_scan.specs.Course.{Input, course}
 use Rattle.yaml_scan.specs.Decoded.{decoded_input}
 use Rattle.yaml_scan.specs.Inputs.{answers_to}
-use Rattle.yaml_scan.specs.Pieces.{PiecesGoOn, chars_so_far, is_known, to_come, unfinished}
+use Rattle.yaml_scan.specs.Pieces.{PiecesGoOn, RefusedForGood, chars_so_far, is_known, to_come, unfinished}
 use Rattle.yaml_scan.specs.SourceOf.{source_of}
 use Rattle.yaml_scan.specs.Unfinished.{GoesOnFrom}
 use Rattle.yaml_scan.proofs.Texts.SourceLocality.{begun_text_reads_same, no_shorter}
@@ -23,36 +24,6 @@ use Rattle.yaml_scan.proofs.Texts.SourceOrder.{texts_keep_order}
 use Rattle.yaml_scan.proofs.Texts.UnfinishedInputs.{answers_begin, answers_end, some_fault}
 
 -- BYTES
-drop-more : (n : ℕ) (a more : List ℕ) → n ≤ length a → drop n (a ++ more) ≡ drop n a ++ more
-drop-more zero a more l = refl
-drop-more (suc n) [] more l = absurd (omega arith)
-drop-more (suc n) (x ∷ a) more l = drop-more n a more (omega arith)
-
-few : (p q r : Bool) → (if p then 2 else if q then 2 else if r then 3 else 0) ≤ 3
-few true q r = omega arith
-few false true r = omega arith
-few false false true = omega arith
-few false false false = omega arith
-
-bom_few : (input : List ℕ) → bom_len YAML_ANY_ENCODING input ≤ 3
-bom_few input = few (begins_with 0xFF 0xFE input) (begins_with 0xFE 0xFF input) (begins_with 0xEF 0xBB input && slice_index input 2 == 0xBF)
-
-record IsMore (setting : yaml_encoding_t) (a more : List ℕ) : Type 0 where
-  encoding : encoding_of setting (a ++ more) ≡ encoding_of setting a
-  bytes : after_bom setting (a ++ more) ≡ after_bom setting a ++ more
-
-is_more : (setting : yaml_encoding_t) (a more : List ℕ) → is_known setting a ≡ true → IsMore setting a more
-is_more YAML_UTF8_ENCODING a more e = record { encoding = refl; bytes = refl }
-is_more YAML_UTF16LE_ENCODING a more e = record { encoding = refl; bytes = refl }
-is_more YAML_UTF16BE_ENCODING a more e = record { encoding = refl; bytes = refl }
-is_more YAML_ANY_ENCODING [] more e = absurd (false≢true e)
-is_more YAML_ANY_ENCODING (x ∷ []) more e = absurd (false≢true e)
-is_more YAML_ANY_ENCODING (x ∷ y ∷ []) more e = absurd (false≢true e)
-is_more YAML_ANY_ENCODING (x ∷ y ∷ z ∷ a) more e = record {
-  encoding = refl;
-  bytes = drop-more (bom_len YAML_ANY_ENCODING (x ∷ y ∷ z ∷ a)) (x ∷ y ∷ z ∷ a) more (let l = bom_few (x ∷ y ∷ z ∷ a) in let m : 3 ≤ length (x ∷ y ∷ z ∷ a) = omega arith in omega arith);
-}
-
 -- what begins the bytes begins the front
 begins_front : (e : yaml_encoding_t) (cs chars rest more : List ℕ) → AreChars cs → AreChars chars → BeginsWithNone e rest → spellings e chars ++ rest ≡ spellings e cs ++ more → (others : List ℕ) × (chars ≡ cs ++ others)
 begins_front e [] chars rest more each all none same = (chars, refl)
@@ -65,7 +36,7 @@ begins_front e (d ∷ cs) (c ∷ chars) rest more each all none same =
     let r = begins_front e cs chars rest more each.1 all.1 none s.1 in
     (r.0, λ k. s.0 k ∷ r.1 k)
 
-front_begins : (setting : yaml_encoding_t) (a more : List ℕ) → is_known setting a ≡ true → Begins (front setting a).chars (front setting (a ++ more)).chars
+pub front_begins : (setting : yaml_encoding_t) (a more : List ℕ) → is_known setting a ≡ true → Begins (front setting a).chars (front setting (a ++ more)).chars
 front_begins setting a more e =
     let m = is_more setting a more e in
     let f = front_is setting a in
@@ -75,11 +46,11 @@ front_begins setting a more e =
     (sym g.parts ∙ m.bytes ∙ ap (λ (x : List ℕ). x ++ more) f.parts ∙ append_assoc (spellings (encoding_of setting a) (front setting a).chars) left more) in
     record { rest = r.0; is = r.1 }
 
-front_encoding : (setting : yaml_encoding_t) (a more : List ℕ) → is_known setting a ≡ true → (front setting (a ++ more)).encoding ≡ (front setting a).encoding
+pub front_encoding : (setting : yaml_encoding_t) (a more : List ℕ) → is_known setting a ≡ true → (front setting (a ++ more)).encoding ≡ (front setting a).encoding
 unfolding front
 front_encoding setting a more e = (is_more setting a more e).encoding
 
-known_more : (setting : yaml_encoding_t) (a more : List ℕ) → is_known setting a ≡ true → is_known setting (a ++ more) ≡ true
+pub known_more : (setting : yaml_encoding_t) (a more : List ℕ) → is_known setting a ≡ true → is_known setting (a ++ more) ≡ true
 known_more YAML_UTF8_ENCODING a more e = refl
 known_more YAML_UTF16LE_ENCODING a more e = refl
 known_more YAML_UTF16BE_ENCODING a more e = refl
@@ -89,14 +60,14 @@ known_more YAML_ANY_ENCODING (x ∷ y ∷ []) more e = absurd (false≢true e)
 known_more YAML_ANY_ENCODING (x ∷ y ∷ z ∷ a) more e = le-leb 3 (length (x ∷ y ∷ z ∷ (a ++ more))) (omega arith)
 
 -- TEXTS
-goes_on : (e d : yaml_encoding_t) (a b : List ℕ) (f : Fault) (o : Option Fault) → Begins a b
+pub goes_on : (e d : yaml_encoding_t) (a b : List ℕ) (f : Fault) (o : Option Fault) → Begins a b
     → GoesOnFrom (record { encoding = e; source = source_of a; refusal = Some f }) (record { encoding = d; source = source_of b; refusal = o }) f
 unfolding source_of
 goes_on e d a b f o g = record { unfinished = refl; longer = inr (no_shorter a b g); same = begun_text_reads_same a b g }
 
 -- ANSWERS
 -- an input of which no character is known says nothing
-nothing_yet : (limit : ℕ) (e : yaml_encoding_t) → answers limit (record { encoding = e; source = source_of []; refusal = Some to_come }) ≡ record { tokens = []; fault = Some to_come }
+pub nothing_yet : (limit : ℕ) (e : yaml_encoding_t) → answers limit (record { encoding = e; source = source_of []; refusal = Some to_come }) ≡ record { tokens = []; fault = Some to_come }
 unfolding answers course source_of
 nothing_yet limit e = refl
 
@@ -143,3 +114,10 @@ module _ (limit : ℕ) (setting : yaml_encoding_t) (given more : List ℕ) where
 pub pieces_go_on : PiecesGoOn
 unfolding answers_to
 pieces_go_on limit setting given more = law limit setting given more
+
+-- what is broken stays so
+pub refused_for_good : RefusedForGood
+unfolding decoded_input
+refused_for_good setting given more known broken =
+    let b = stays_broken setting given more known broken in
+    λ k. record { encoding = (b.0 k).encoding; source = source_of (b.0 k).chars; refusal = b.1 k }

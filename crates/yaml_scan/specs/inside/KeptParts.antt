@@ -1,5 +1,6 @@
 -- The calls of a scan, by what they make of its session.
-use Rattle.std.specs.Prelude.{◌≡◌, ◌⊎◌, ℕ, ◌<◌, Bool, true, false, List, [], ◌∷◌, MatchResult, Result, Ok, Err, Some}
+use Rattle.std.specs.Prelude.{◌≡◌, ◌⊎◌, ℕ, ◌+◌, ◌<◌, Bool, true, false, List, [], ◌∷◌, map, take, drop, length}
+use Rattle.std.specs.Prelude.{MatchResult, Result, Ok, Err, None, Some}
 use Rattle.yaml_text.specs.Fault.{Fault, fault_of}
 use Rattle.yaml_text.specs.Text.{Text}
 use Rattle.yaml_text.specs.declared.fault.yaml_fault_t.{yaml_fault_t}
@@ -7,6 +8,7 @@ use Rattle.yaml_scan.specs.declared.stop.stop_t.{stop_t}
 use Rattle.yaml_scan.specs.declared.session.session_t.{session_t}
 use Rattle.yaml_scan.specs.declared.state.state_t.{state_t}
 use Rattle.yaml_scan.specs.Decoded.{decoded_input}
+use Rattle.yaml_scan.specs.Groups.{Token, handed_out}
 use Rattle.yaml_scan.specs.Headline.{Calls}
 use Rattle.yaml_scan.specs.KeptCalls.{ComesFirst, HasNoMoreRoom, token_peeked}
 use Rattle.yaml_scan.specs.Parser.{Parser}
@@ -14,9 +16,10 @@ use Rattle.yaml_scan.specs.ParserCalls.{after_call, token_shown}
 use Rattle.yaml_scan.specs.Scanned.{GoesOnBy}
 use Rattle.yaml_scan.specs.Session.Call.{PEEK, SCAN, SKIP}
 use Rattle.yaml_scan.specs.Session.Answer.{FAULT, PEEKED, TOKEN}
+use Rattle.yaml_scan.specs.Settled.{tokens_of}
 use Rattle.yaml_scan.specs.Token.{yaml_token_t}
 use Rattle.yaml_scan.specs.inside.Ready.{IsEnded, IsSettled, IsShort, IsShown, IsStarted, IsStopped, Scan, Sound}
-use Rattle.yaml_scan.specs.inside.Ready.{fault_in, parser_of, scanner_in, with_session}
+use Rattle.yaml_scan.specs.inside.Ready.{course_in, fault_in, parser_of, scanner_in, with_session}
 use Rattle.yaml_scan.specs.inside.Scanner.{scanner_of}
 use Rattle.yaml_scan.specs.inside.Sent.{HasSent}
 use Rattle.yaml_scan.specs.inside.Stop.{fault_at}
@@ -55,9 +58,25 @@ pub record HasSettled (i : Scan) (text : Text) (s : session_t) : Type 0 where
   pub settled : IsSettled i.setting i.input (scanner_in i) (scanner_of text s.state)
   pub rest : s ≡ on_to i.session s.state
 
+-- The tokens of the input of a scan.
+abbrev pub tokens_in : Scan → List Token
+tokens_in i = tokens_of i.session.state.limit (course_in i.session.state.limit i.setting i.input)
+
+-- These are the next tokens of the scan i, and j has taken them too. With the stream end all are taken.
+pub record HandsOn (i j : Scan) (tokens : List yaml_token_t) : Type 0 where
+  pub setting : j.setting ≡ i.setting
+  pub input : j.input ≡ i.input
+  pub limit : j.session.state.limit ≡ i.session.state.limit
+  pub taken : j.session.state.taken ≡ i.session.state.taken + length tokens
+  pub next : tokens ≡ map (handed_out (decoded_input i.setting i.input).encoding)
+      (take (length tokens) (drop i.session.state.taken (tokens_in i)))
+  pub all : j.session.over ≡ true → (j.session.state.taken ≡ length (tokens_in i))
+      × ((course_in i.session.state.limit i.setting i.input).fault ≡ None)
+
 -- The scan i has gone on by these tokens, and is j then.
 pub record GoesOnTo (i j : Scan) (tokens : List yaml_token_t) : Type 0 where
   pub sound : Sound j
+  pub hands : HandsOn i j tokens
   pub begun : 0 < j.session.state.made
   pub on : GoesOnBy (parser_of i) tokens (parser_of j) j.session.over
   pub first : ComesFirst (token_peeked (parser_of i)) tokens (parser_of j)
@@ -83,10 +102,12 @@ pub record StopsNow (i : Scan) (s : session_t) (fault : Fault) : Type 0 where
   pub why : IsShort i.setting i.input (scanner_in i) fault
       ⊎ IsEnded i.setting i.input (scanner_in i) (scanner_in (with_session i s)) fault
   pub stopped : IsStopped i.setting i.input (scanner_in i) (scanner_in (with_session i s))
+  pub rest : s ≡ on_to i.session s.state
 
 -- The scan i has gone on by these tokens, and then stopped in this session with this fault.
 pub record StopsAfter (i : Scan) (s : session_t) (tokens : List yaml_token_t) (fault : Fault) : Type 0 where
   pub last : session_t
+  pub hands : HandsOn i (with_session i last) tokens
   pub stops : StopsNow (with_session i last) s fault
   pub on : GoesOnBy (parser_of i) tokens (parser_of (with_session i last)) false
   pub first : ComesFirst (token_peeked (parser_of i)) tokens (parser_of (with_session i last))

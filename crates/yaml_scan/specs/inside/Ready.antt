@@ -21,7 +21,7 @@ use Rattle.yaml_scan.specs.Settled.{before, settled, pace, first_steps, tokens_o
 use Rattle.yaml_scan.specs.Session.{all_steps}
 use Rattle.yaml_scan.specs.Sessions.{session_queued}
 use Rattle.yaml_scan.specs.Decoded.{decoded_input}
-use Rattle.yaml_scan.specs.inside.Scanning.{IsRunning, IsOpen, history, course_of, input_of}
+use Rattle.yaml_scan.specs.inside.Scanning.{Halts, IsRunning, IsOpen, history, course_of, input_of}
 use Rattle.yaml_scan.specs.Parser.{Parser}
 use Rattle.yaml_scan.specs.inside.Queue.{IsLead}
 
@@ -82,6 +82,10 @@ pub record IsStopped (setting : yaml_encoding_t) (input : List ℕ) (s t : Scann
   pub most : t.made ≤ pace s.limit (course_in s.limit setting input).read s.taken s.made
   pub unsettled : settled s.limit (course_in s.limit setting input).read s.taken t.made ≡ false
   pub reach : t.reach ≡ reach (first_steps t.made (course_in s.limit setting input).read)
+  -- it is left as the last good step left it
+  pub last : Scanner
+  pub ready : IsReady setting input last
+  pub halts : Halts last t
 
 -- a growth was refused: in UTF-8, whose text takes none, in the first step, if no reader's fault replaces it, or after
 -- it

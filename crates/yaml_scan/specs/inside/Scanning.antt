@@ -483,7 +483,7 @@ pub record Fails (s t : Scanner) (f : Fault) : Type 0 where
   pub none : length (before s.limit (course_of s).read) ≤ s.taken
   pub fault : (course_of s).fault ≡ Some f
 
--- what is left of a scanner that has stopped: how far the last step was read can still be seen
+-- what is left of a scanner that has stopped: how far the last step was read can still be seen, and it can run on
 pub record Stops (s t : Scanner) : Type 0 where
   pub limit : t.limit ≡ s.limit
   pub taken : t.taken ≡ s.taken
@@ -493,3 +493,8 @@ pub record Stops (s t : Scanner) : Type 0 where
   -- the head of the queue was not the next token, so a step was needed
   pub unsettled : length (before s.limit (first_steps t.made (course_of s).read)) ≤ s.taken
   pub reach : t.reach ≡ reach (first_steps t.made (course_of s).read)
+  -- it is left as the last good step left it
+  pub last : Scanner
+  pub runs : IsRunning last
+  pub same : Same s last
+  pub halts : Halts last t

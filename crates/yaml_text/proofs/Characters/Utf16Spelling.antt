@@ -14,11 +14,11 @@ use lib.Utf8.{encode}
 use Rattle.yaml_text.proofs.Decodings.DecodeFronts.{AreChars-append, chars-utf8, IsText-utf8, IsText-nil}
 use Rattle.yaml_text.proofs.Characters.CharRanges.{char_range}
 
-one_unit : (big : Bool) (c : ℕ) → c < 0x10000 → spelling16 big c ≡ unit big c
+pub one_unit : (big : Bool) (c : ℕ) → c < 0x10000 → spelling16 big c ≡ unit big c
 unfolding spelling16
 one_unit big c h = rw (lt-ltb c 0x10000 h) refl
 
-two_units : (big : Bool) (c : ℕ) → 0x10000 ≤ c → spelling16 big c ≡ unit big (0xD800 + (c - 0x10000) / 1024) ++ unit big (0xDC00 + (c - 0x10000) % 1024)
+pub two_units : (big : Bool) (c : ℕ) → 0x10000 ≤ c → spelling16 big c ≡ unit big (0xD800 + (c - 0x10000) / 1024) ++ unit big (0xDC00 + (c - 0x10000) % 1024)
 unfolding spelling16
 two_units big c h = rw (le-ltb c 0x10000 h) refl
 
@@ -30,7 +30,7 @@ second_back : (big : Bool) (u v : ℕ) (more : List ℕ) → unit_at big ((unit 
 second_back true u v more = omega arith
 second_back false u v more = omega arith
 
-first_back : (big : Bool) (u v : ℕ) (more : List ℕ) → unit_at big ((unit big u ++ unit big v) ++ more) 0 ≡ u
+pub first_back : (big : Bool) (u v : ℕ) (more : List ℕ) → unit_at big ((unit big u ++ unit big v) ++ more) 0 ≡ u
 first_back true u v more = omega arith
 first_back false u v more = omega arith
 
@@ -44,7 +44,7 @@ pub record Units (big : Bool) (bytes : List ℕ) (c : ℕ) : Type 0 where
 no_surrogate : (c : ℕ) → (c < 0xD800) ⊎ ((0xE000 ≤ c) × (c < 0x110000)) → (is_low c ≡ false) × (is_high c ≡ false)
 no_surrogate c h = (grind (arith, nat_tests), grind (arith, nat_tests))
 
-high_of : (c : ℕ) → 0x10000 ≤ c → c < 0x110000 → (is_low (0xD800 + (c - 0x10000) / 1024) ≡ false) × (is_high (0xD800 + (c - 0x10000) / 1024) ≡ true)
+pub high_of : (c : ℕ) → 0x10000 ≤ c → c < 0x110000 → (is_low (0xD800 + (c - 0x10000) / 1024) ≡ false) × (is_high (0xD800 + (c - 0x10000) / 1024) ≡ true)
 high_of c l h = (grind (arith, nat_tests), grind (arith, nat_tests))
 
 low_of : (c : ℕ) → is_low (0xDC00 + (c - 0x10000) % 1024) ≡ true
