@@ -53,13 +53,17 @@ pub record HoldsNothingBack (p q : Fed) : Type 0 where
       → f.error ≡ YAML_READER_ERROR
   pub bytes : is_known p.setting p.given ≡ true → is_broken p.setting p.given ≡ false
 
+-- the stream end was taken: in this call, or before it, and no fault ended the session
+abbrev pub HasEndedWell : Fed → Fed → Type 0
+HasEndedWell p q = (p.session.over ≡ false) ⊎ (q.session.fault ≡ None)
+
 -- what holds once a call gave no more tokens, by why it did
 abbrev pub EndsBy : Fed → Fed → Why → Type 0
 EndsBy p q NO_ROOM = q.session.over ≡ false
 EndsBy p q MORE = (q.session.over ≡ false) × (p.whole ≡ false) × HoldsNothingBack p q
 EndsBy p q WHOLE = (q.session.over ≡ false) × (p.whole ≡ false) × (is_known p.setting p.given ≡ true)
     × (encoding_of p.setting p.given ≢ YAML_UTF8_ENCODING)
-EndsBy p q OVER = (q.session.over ≡ true) × (q.session.fault ≡ None → (p.whole ≡ true) × HasTakenAll q None)
+EndsBy p q OVER = (q.session.over ≡ true) × (HasEndedWell p q → (p.whole ≡ true) × HasTakenAll q None)
 EndsBy p q (FAULT f) = (p.session.over ≡ false) × (q.session.over ≡ true) × (q.session.fault ≡ Some f)
     × ((f ≡ memory_fault) ⊎ HasTakenAll q (Some f))
 

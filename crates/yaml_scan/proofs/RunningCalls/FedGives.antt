@@ -17,7 +17,7 @@ use Rattle.yaml_scan.specs.Answers.{Answers, answers}
 use Rattle.yaml_scan.specs.Begins.{Begins}
 use Rattle.yaml_scan.specs.Course.{Input}
 use Rattle.yaml_scan.specs.Decoded.{decoded_input}
-use Rattle.yaml_scan.specs.Fed.{EndsBy, Fed, MayBe, Why}
+use Rattle.yaml_scan.specs.Fed.{EndsBy, Fed, HasEndedWell, HasTakenAll, MayBe, Why}
 use Rattle.yaml_scan.specs.Fed.Why.{NO_ROOM, MORE, WHOLE, OVER, FAULT}
 use Rattle.yaml_scan.specs.FedCalls.{FedGoesOn, GivesFed, HasNoRoom, IsPeeked, IsWhy}
 use Rattle.yaml_scan.specs.Groups.{Token, handed_out}
@@ -328,7 +328,11 @@ gives_later p k result took lacks F (inr w) given = subst (λ (r : yaml_fed_t). 
 pub gives_no_more : (p : Fed) (k : yaml_fed_parser_t) (took : List yaml_token_t → Type 0) (lacks : ℕ → ℕ → Type 0) → IsFed p k → k.scanner.session.over ≡ true → took [] → GivesFed p k code.OVER took lacks
 gives_no_more p k took lacks F o given =
     let over : p.session.over ≡ true = sym (ap (λ (x : Session). x.over) F.is.session) ∙ o in
-    gives_nothing p k code.OVER OVER took lacks F refl (over, λ n. F.is.all over n) (λ o. refl) given (λ e. absurd (cc))
+    let all : HasEndedWell p p → (p.whole ≡ true) × HasTakenAll p None = (λ n. elim n [
+      | inl goes ↦ absurd (false≢true (sym goes ∙ over))
+      | inr none ↦ F.is.all over none
+    ]) in
+    gives_nothing p k code.OVER OVER took lacks F refl (over, all) (λ o. refl) given (λ e. absurd (cc))
 
 -- nothing to come can change what came before
 pub ready_still : (p : Fed) (k : yaml_fed_parser_t) (F : IsFed p k) → k.scanner.session.over ≡ false → k.certain ≡ true → IsReadyFed p k F.came
