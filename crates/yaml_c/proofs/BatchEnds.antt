@@ -83,7 +83,7 @@ fault_comes (FAULT g) list f (n, inr e) = (n, inl (cc))
 fault_comes OVER list f w = tt
 
 -- why the batch ended, if it has a token
-why_ends : (records bytes : ℕ) (list : List Token) (n : Next) → ((f : Fault) → n ≡ FAULT f → bytes < length (all_texts list) + need (FAULT f))
+pub why_ends : (records bytes : ℕ) (list : List Token) (n : Next) → ((f : Fault) → n ≡ FAULT f → bytes < length (all_texts list) + need (FAULT f))
     → 0 < length list → Stops records bytes list n → Why records bytes list n
 why_ends records bytes list UNKNOWN tight some stops = inl stops
 why_ends records bytes list (TOKEN t) tight some (inl full) = inl full
@@ -92,7 +92,7 @@ why_ends records bytes list (FAULT f) tight some stops = inr (inr (some, tight f
 why_ends records bytes list OVER tight some stops = inr (inl (some, refl))
 
 -- what comes next is too long, if it has none
-too_long : (records bytes : ℕ) (list : List Token) (n : Next) → ((f : Fault) → n ≡ FAULT f → bytes < length (all_texts list) + need (FAULT f))
+pub too_long : (records bytes : ℕ) (list : List Token) (n : Next) → ((f : Fault) → n ≡ FAULT f → bytes < length (all_texts list) + need (FAULT f))
     → length list ≡ 0 → 0 < records → Stops records bytes list n → bytes < need n
 too_long records bytes (t ∷ list) n tight none some stops = absurd (omega arith)
 too_long records bytes [] UNKNOWN tight none some stops = absurd (omega arith)

@@ -101,18 +101,18 @@ module _ (old new : token_rooms_t) (fits : Fits old) (no_token : old.token_count
   measured : new.text_len ≡ length (all_texts list)
   measured = let q = size in let a = have.text_len in let b = within.fit in let c = fits.texts in omega arith
 
-  few : length list ≤ length old.tokens.now
+  pub few : length list ≤ length old.tokens.now
   few = let q = size in let a = counted in let b = within.few in omega arith
 
-  fit : length (all_texts list) ≤ length old.texts.now
+  pub fit : length (all_texts list) ≤ length old.texts.now
   fit = let q = size in let a = measured in let b = within.fit in omega arith
 
   -- there is no room for a record, or none for the texts of a token
-  lacks_record : Lacks new 1 0 → length list ≡ length old.tokens.now
+  pub lacks_record : Lacks new 1 0 → length list ≡ length old.tokens.now
   lacks_record (inl w) = let q = size in let a = counted in let b = few in omega arith
   lacks_record (inr w) = absurd (let b = within.fit in omega arith)
 
-  lacks_text : (t : Token) → Lacks new 1 (said_len t.token_data)
+  pub lacks_text : (t : Token) → Lacks new 1 (said_len t.token_data)
       → (length list ≡ length old.tokens.now) ⊎ (length old.texts.now < length (all_texts list) + need (TOKEN t))
   lacks_text t (inl w) = inl (let q = size in let a = counted in let b = few in omega arith)
   lacks_text t (inr w) = inr (let q = size in let a = measured in let e = said_is t.token_data in omega arith)

@@ -5,5 +5,9 @@ pub mod ShownTokens
 pub mod Batches
 pub mod Looks
 pub mod BatchEnds
+pub mod PieceTokens
+pub mod PieceEnds
+pub mod PieceTurns
+pub mod PieceCourse
 pub mod NothingHeld
 pub mod EndMark

@@ -8,6 +8,7 @@ use Rattle.yaml_text.specs.declared.token.unnamed_yaml_token_t_data.TheVariants.
 use Rattle.yaml_scan.specs.declared.scanner.scanner_t.{scanner_t as yaml_kept_parser_t}
 use Rattle.yaml_c.specs.Handle.{held, heap}
 use Rattle.yaml_c.specs.declared.held.ahead_t.TheVariants.{NONE}
+use Rattle.yaml_c.specs.declared.kinds.held_any_t.TheVariants.{WHOLE}
 
 no_parser : yaml_kept_parser_t
 unfolding misplacement
@@ -61,10 +62,10 @@ no_parser = record {
 }
 
 pub nothing_held : held
-nothing_held = record {
+nothing_held = WHOLE (record {
   parser = no_parser;
   ahead = NONE;
   encoding = 0;
   skipped = None;
   spare = record { ptr = null_ptr; len = 0; cap = 0; alloc = heap; items = []; ok = (refl, lit≤ tt); small = lit< tt };
-}
+})

@@ -6,7 +6,7 @@ use denote.RawPtr.{Ptr}
 use Rattle.std.specs.declared.alloc.Global.{Global}
 use Rattle.std.specs.contracts.impls.GlobalAllocator.TheImpl.{ghosts}
 use Rattle.std.specs.Box.Ownership.{box_owns}
-use Rattle.yaml_c.specs.contracts.held.held_t.{the_row}
+use Rattle.yaml_c.specs.contracts.kinds.held_any_t.{the_row}
 
 -- what is held, as a type of the logic
 abbrev pub row : RattleType

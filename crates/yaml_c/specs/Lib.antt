@@ -10,4 +10,6 @@ pub mod Next
 pub mod Held
 pub mod Handle
 pub mod HeldLaws
+pub mod PiecesHeld
+pub mod Kinds
 pub mod inside

@@ -9,7 +9,7 @@ done = 0
 abbrev pub fault : ℕ
 fault = 1
 
--- no such encoding, or no such key limit
+-- no such encoding, no such key limit, or no such window of the input
 abbrev pub wrong : ℕ
 wrong = 2
 
@@ -28,3 +28,11 @@ no_room = 5
 -- the handle holds no scanner
 abbrev pub not_live : ℕ
 not_live = 6
+
+-- more of the input has to come
+abbrev pub more : ℕ
+more = 7
+
+-- the input is in UTF-16, and all of it has to come
+abbrev pub whole : ℕ
+whole = 8

@@ -2,6 +2,7 @@
 -- these.
 pub mod Sink
 pub mod Batch
+pub mod PieceBatch
 pub mod MorePut
 pub mod Bare
 pub mod Spelled

@@ -2,7 +2,7 @@
 ghost use Rattle.std.specs.Prelude.{◌≡◌, Bool, true, false};
 ghost use Rattle.yaml_c.specs.Handle.{held};
 
-use crate::held::held_t;
+use crate::kinds::held_any_t;
 use std::alloc::Global;
 use std::marker::Model;
 
@@ -37,7 +37,7 @@ pub struct bogzhami_handle {
 }
 
 /// The address of what a box holds.
-pub(crate) fn of(held: Box<held_t>) -> held_at_t
+pub(crate) fn of(held: Box<held_any_t>) -> held_at_t
     ensures live { result.live ≡ true }
     ensures value { result.value ≡ held.value }
 {
@@ -48,12 +48,12 @@ pub(crate) fn of(held: Box<held_t>) -> held_at_t
 }
 
 /// The box again.
-pub(crate) fn into_box(alloc: Global, held: held_at_t) -> Box<held_t>
+pub(crate) fn into_box(alloc: Global, held: held_at_t) -> Box<held_any_t>
     requires { held.live ≡ true }
     ensures value { result.value ≡ held.value }
 {
     let held_at_t { at } = held;
-    unsafe { Box::from_raw(alloc, at as *mut held_t) }
+    unsafe { Box::from_raw(alloc, at as *mut held_any_t) }
 }
 
 /// The address of nothing.
@@ -76,7 +76,7 @@ pub(crate) fn closed() -> bogzhami_handle
 }
 
 /// A handle of what a box holds.
-pub(crate) fn handle_of(held: Box<held_t>) -> bogzhami_handle
+pub(crate) fn handle_of(held: Box<held_any_t>) -> bogzhami_handle
     ensures live { result.live ≡ true }
     ensures value { result.held.value ≡ held.value }
 {

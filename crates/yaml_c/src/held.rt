@@ -7,6 +7,7 @@ ghost use Rattle.yaml_scan.specs.inside.Kept.{IsKept};
 ghost use Rattle.yaml_c.specs.Ahead.{Ahead, IsAhead, read_fault};
 ghost use Rattle.yaml_c.specs.Answer.{most_key_limit, rooms};
 ghost use Rattle.yaml_c.specs.Held.{Scan, IsAt, IsKeptAt, IsNext, IsPeek, Shows, opened};
+ghost use Rattle.yaml_c.specs.Kinds.{Whole};
 ghost use Rattle.yaml_c.specs.Next.{need, next_of};
 ghost use Rattle.yaml_c.specs.Next.Next.{UNKNOWN, TOKEN, FAULT as FAULT_NEXT};
 ghost use Rattle.yaml_c.specs.Record.{held, texts_of};
@@ -17,6 +18,7 @@ ghost use Rattle.yaml_c.specs.inside.Batch.{Ends, GivesNext, Looks};
 ghost use Rattle.yaml_c.specs.inside.Spelled.{spelled_of};
 
 use crate::answer::{bogzhami_answer, counts, counts_and_fault, fault_len, put_fault_texts};
+use crate::kinds::held_any_t;
 use crate::numbers::encoding_number;
 use crate::record::{bogzhami_token, first_text, record_of, second_text};
 use crate::room::put_bytes;
@@ -53,7 +55,7 @@ pub struct held_t {
 }
 
 /// How many bytes the texts of a token have.
-fn text_len(token: &yaml_token_t) -> u64
+pub(crate) fn text_len(token: &yaml_token_t) -> u64
     ensures { result ≡ held (length (texts_of (token_of token.now))) }
 {
     texts_len(&token.token_data)
@@ -187,20 +189,20 @@ pub(crate) fn open(
     input: &[u8],
     setting: yaml_encoding_t,
     limit: u32,
-) -> Result<Box<held_t>, AllocError>
+) -> Result<Box<held_any_t>, AllocError>
     requires least { 1 ≤ limit }
     requires most { limit ≤ most_key_limit }
-    ensures { IfOk result (λ held. IsAt (opened input.now setting limit) held.value) }
+    ensures { IfOk result (λ held. Whole held.value (IsAt (opened input.now setting limit))) }
 {
     let encoding = encoding_number(yaml_encoding_of(setting, input));
     let parser = yaml_parser_t::with_key_limit(alloc, input, setting, limit);
-    let held = held_t {
+    let held = held_any_t::WHOLE(held_t {
         parser: yaml_kept_parser_t::new(parser),
         ahead: ahead_t::NONE,
         encoding,
         skipped: skipped_of(setting, input),
         spare: Vec::new(alloc),
-    };
+    });
     match Box::new(alloc, held) {
         Ok(held) => Ok(held),
         Err(_) => Err(AllocError),

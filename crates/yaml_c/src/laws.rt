@@ -2,6 +2,7 @@
 ghost use Rattle.std.specs.Prelude.{ℕ};
 ghost use Rattle.yaml_c.specs.HeldLaws.{GivesBeginning, GivesAll, IsOneReading, ShowsNext};
 ghost use Rattle.yaml_c.specs.Laws.{HoldsAll, HoldsBeginning, KeepsSize};
+ghost use Rattle.yaml_c.specs.PiecesHeld.{PiecesCome};
 
 use crate::record::bogzhami_token;
 
@@ -29,4 +30,9 @@ pub fn batches_joined()
     ensures next { ShowsNext }
     ensures all { GivesAll }
     ensures one { IsOneReading }
+{}
+
+/// A scanner that is given its input in pieces is one of the longer input too, once more of it came.
+pub fn pieces_come()
+    ensures { PiecesCome }
 {}

@@ -10,8 +10,12 @@ mod answer;
 mod calls;
 mod handle;
 mod held;
+mod kinds;
 pub mod laws;
 mod numbers;
+mod pieces;
+#[cfg(test)]
+mod pieces_tests;
 mod place;
 mod record;
 mod room;
@@ -28,7 +32,8 @@ use crate::spelled::{skipped_of, spelled_t};
 use crate::status::{DONE, FAULT, WRONG};
 pub use answer::bogzhami_answer;
 pub use calls::{
-    bogzhami_close, bogzhami_encoding, bogzhami_next, bogzhami_open, bogzhami_peek, bogzhami_reach,
+    bogzhami_close, bogzhami_encoding, bogzhami_next, bogzhami_next_piece, bogzhami_open,
+    bogzhami_open_pieces, bogzhami_peek, bogzhami_reach,
 };
 pub use handle::bogzhami_handle;
 pub use place::bogzhami_place;

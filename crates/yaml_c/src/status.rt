@@ -6,7 +6,7 @@ pub(crate) const DONE: u32 = 0;
 /// The answer has the fault that comes next.
 pub(crate) const FAULT: u32 = 1;
 
-/// No such encoding, or no such key limit.
+/// No such encoding, no such key limit, or no such window of the input.
 pub(crate) const WRONG: u32 = 2;
 
 /// Memory was refused.
@@ -20,3 +20,9 @@ pub(crate) const NO_ROOM: u32 = 5;
 
 /// The handle holds no scanner.
 pub(crate) const NOT_LIVE: u32 = 6;
+
+/// More of the input has to come.
+pub(crate) const MORE: u32 = 7;
+
+/// The input is in UTF-16, and all of it has to come.
+pub(crate) const WHOLE: u32 = 8;

@@ -1,6 +1,7 @@
 //! Calls as a C program makes them. The number 77 stands for what was there before.
 ghost use Rattle.std.specs.Prelude.{◌≡◌, ◌≤◌, true};
 ghost use Rattle.yaml_c.specs.Held.{Scan, IsAt};
+ghost use Rattle.yaml_c.specs.Kinds.{Whole};
 
 use super::*;
 use crate::handle::closed;
@@ -20,7 +21,7 @@ const NO_MARK: bogzhami_mark = bogzhami_mark {
     column: 77,
 };
 
-const NO_TOKEN: bogzhami_token = bogzhami_token {
+pub(crate) const NO_TOKEN: bogzhami_token = bogzhami_token {
     token_type: 77,
     detail: 77,
     major: 77,
@@ -33,7 +34,7 @@ const NO_TOKEN: bogzhami_token = bogzhami_token {
     input_at: 77,
 };
 
-const NO_ANSWER: bogzhami_answer = bogzhami_answer {
+pub(crate) const NO_ANSWER: bogzhami_answer = bogzhami_answer {
     token_count: 77,
     text_len: 77,
     error: 77,
@@ -396,7 +397,8 @@ fn places_in_wrong_encodings(rt: HostRuntime) -> Result<(), Fail> {
 
 /// A handle that holds a scanner of an input, unless memory was refused.
 fn opened(rt: HostRuntime, input: &[u8]) -> bogzhami_handle
-    ensures { result.live ≡ true → (s : Scan) × (s.input ≡ input.now) × IsAt s result.held.value }
+    ensures { result.live ≡ true → Whole result.held.value
+        (λ h. (s : Scan) × (s.input ≡ input.now) × IsAt s h) }
 {
     let mut handle = closed();
     let _status = bogzhami_open(rt.alloc(), &mut handle, input, 0, KEY_LIMIT);
@@ -414,8 +416,10 @@ fn batch(
 ) -> (u32, u64, u32, u64)
     requires count { count ≤ 8 }
     requires len { len ≤ 128 }
-    requires at { handle.old.live ≡ true → (s : Scan) × (s.input ≡ input.now) × IsAt s handle.old.held.value }
-    ensures { handle.new.live ≡ true → (s : Scan) × (s.input ≡ input.now) × IsAt s handle.new.held.value }
+    requires at { handle.old.live ≡ true → Whole handle.old.held.value
+        (λ h. (s : Scan) × (s.input ≡ input.now) × IsAt s h) }
+    ensures { handle.new.live ≡ true → Whole handle.new.held.value
+        (λ h. (s : Scan) × (s.input ≡ input.now) × IsAt s h) }
 {
     let mut tokens = [NO_TOKEN; 8];
     let mut texts = [77u8; 128];
@@ -445,8 +449,10 @@ fn peeked(
     len: usize,
 ) -> (u32, u32, u64)
     requires len { len ≤ 128 }
-    requires at { handle.old.live ≡ true → (s : Scan) × (s.input ≡ input.now) × IsAt s handle.old.held.value }
-    ensures { handle.new.live ≡ true → (s : Scan) × (s.input ≡ input.now) × IsAt s handle.new.held.value }
+    requires at { handle.old.live ≡ true → Whole handle.old.held.value
+        (λ h. (s : Scan) × (s.input ≡ input.now) × IsAt s h) }
+    ensures { handle.new.live ≡ true → Whole handle.new.held.value
+        (λ h. (s : Scan) × (s.input ≡ input.now) × IsAt s h) }
 {
     let mut token = NO_TOKEN;
     let mut texts = [77u8; 128];
@@ -480,8 +486,10 @@ type row_t = (call_t, answer_t);
 /// The answer to a call, which has room for at most 8 tokens and 128 bytes. A peek gives no token. All that a close
 /// answers is its status.
 fn answered(rt: HostRuntime, handle: &mut bogzhami_handle, input: &[u8], call: call_t) -> answer_t
-    requires { handle.old.live ≡ true → (s : Scan) × (s.input ≡ input.now) × IsAt s handle.old.held.value }
-    ensures { handle.new.live ≡ true → (s : Scan) × (s.input ≡ input.now) × IsAt s handle.new.held.value }
+    requires { handle.old.live ≡ true → Whole handle.old.held.value
+        (λ h. (s : Scan) × (s.input ≡ input.now) × IsAt s h) }
+    ensures { handle.new.live ≡ true → Whole handle.new.held.value
+        (λ h. (s : Scan) × (s.input ≡ input.now) × IsAt s h) }
 {
     match call {
         call_t::BATCH(count, len) => batch(rt, handle, input, count.min(8), len.min(128)),
@@ -500,7 +508,8 @@ fn made(
     input: &[u8],
     rows: &[row_t],
 ) -> Result<Vec<row_t>, AllocError>
-    requires { handle.old.live ≡ true → (s : Scan) × (s.input ≡ input.now) × IsAt s handle.old.held.value }
+    requires { handle.old.live ≡ true → Whole handle.old.held.value
+        (λ h. (s : Scan) × (s.input ≡ input.now) × IsAt s h) }
 {
     let mut made = Vec::new(rt.alloc());
     'calls: for (call, _) in rows {
@@ -574,8 +583,10 @@ fn peek_without_room(rt: HostRuntime) -> Result<(), Fail> {
 
 /// Whether two peeks show the next token, of this type and with texts of so many bytes, and then a batch gives it.
 fn is_shown_and_given(rt: HostRuntime, handle: &mut bogzhami_handle, kind: u32, len: u64) -> bool
-    requires { handle.old.live ≡ true → (s : Scan) × (s.input ≡ SHORT.now) × IsAt s handle.old.held.value }
-    ensures { handle.new.live ≡ true → (s : Scan) × (s.input ≡ SHORT.now) × IsAt s handle.new.held.value }
+    requires { handle.old.live ≡ true → Whole handle.old.held.value
+        (λ h. (s : Scan) × (s.input ≡ SHORT.now) × IsAt s h) }
+    ensures { handle.new.live ≡ true → Whole handle.new.held.value
+        (λ h. (s : Scan) × (s.input ≡ SHORT.now) × IsAt s h) }
 {
     let first = peeked(rt, handle, SHORT, 2);
     let second = peeked(rt, handle, SHORT, 2);
@@ -590,9 +601,12 @@ fn by_turns(
     one: &mut bogzhami_handle,
     two: &mut bogzhami_handle,
 ) -> ([answer_t; 3], bool)
-    requires one { one.old.live ≡ true → (s : Scan) × (s.input ≡ SHORT.now) × IsAt s one.old.held.value }
-    requires two { two.old.live ≡ true → (s : Scan) × (s.input ≡ SHORT.now) × IsAt s two.old.held.value }
-    ensures { two.new.live ≡ true → (s : Scan) × (s.input ≡ SHORT.now) × IsAt s two.new.held.value }
+    requires one { one.old.live ≡ true → Whole one.old.held.value
+        (λ h. (s : Scan) × (s.input ≡ SHORT.now) × IsAt s h) }
+    requires two { two.old.live ≡ true → Whole two.old.held.value
+        (λ h. (s : Scan) × (s.input ≡ SHORT.now) × IsAt s h) }
+    ensures { two.new.live ≡ true → Whole two.new.held.value
+        (λ h. (s : Scan) × (s.input ≡ SHORT.now) × IsAt s h) }
 {
     let start = batch(rt, one, SHORT, 1, 2);
     let first = is_shown_and_given(rt, two, 1, 0);
@@ -608,7 +622,8 @@ fn closed_by_turns(
     one: &mut bogzhami_handle,
     two: &mut bogzhami_handle,
 ) -> (u32, answer_t, u32)
-    requires { two.old.live ≡ true → (s : Scan) × (s.input ≡ SHORT.now) × IsAt s two.old.held.value }
+    requires { two.old.live ≡ true → Whole two.old.held.value
+        (λ h. (s : Scan) × (s.input ≡ SHORT.now) × IsAt s h) }
 {
     let first = bogzhami_close(rt.alloc(), one);
     let end = batch(rt, two, SHORT, 8, 2);

@@ -38,8 +38,8 @@ use Rattle.std.specs.contracts.alloc.Global as global
 use Rattle.std.proofs.alloc.Global.TheLaws as global_laws
 use Rattle.std.specs.contracts.impls.GlobalAllocator.TheImpl as heap
 use Rattle.std.proofs.impls.GlobalAllocator.TheImpl.Met as heap_met
-use Rattle.yaml_c.specs.contracts.held.held_t as kept
-use Rattle.yaml_c.proofs.held.held_t.TheLaws as kept_laws
+use Rattle.yaml_c.specs.contracts.kinds.held_any_t as kept
+use Rattle.yaml_c.proofs.kinds.held_any_t.TheLaws as kept_laws
 use Rattle.std.specs.contracts.boxed.Box.from_raw as callee
 use Rattle.std.proofs.boxed.Box.from_raw.Met.{met}
 use Rattle.yaml_c.specs.contracts.handle.held_at_t as hand

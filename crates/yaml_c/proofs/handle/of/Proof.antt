@@ -45,8 +45,8 @@ use Rattle.std.specs.contracts.alloc.Global as global
 use Rattle.std.proofs.alloc.Global.TheLaws as global_laws
 use Rattle.std.specs.contracts.impls.GlobalAllocator.TheImpl as heap
 use Rattle.std.proofs.impls.GlobalAllocator.TheImpl.Met as heap_met
-use Rattle.yaml_c.specs.contracts.held.held_t as kept
-use Rattle.yaml_c.proofs.held.held_t.TheLaws as kept_laws
+use Rattle.yaml_c.specs.contracts.kinds.held_any_t as kept
+use Rattle.yaml_c.proofs.kinds.held_any_t.TheLaws as kept_laws
 use Rattle.std.specs.contracts.boxed.Box.into_raw as callee
 use Rattle.std.proofs.boxed.Box.into_raw.Met.{met}
 use Rattle.yaml_c.specs.contracts.handle.held_at_t as hand
@@ -54,10 +54,10 @@ use Rattle.yaml_c.specs.contracts.handle.of.{ended, clauses}
 use Rattle.yaml_c.specs.contracts.handle.of.Key.{name as #self}
 use Rattle.yaml_c.proofs.handle.of.Statement.{statement}
 use Rattle.yaml_c.proofs.handle.of.Code as code
-use Rattle.yaml_c.proofs.yaml_c++held++held_t+Destruct.drop.Kinds as drop_kinds
-use Rattle.yaml_c.proofs.yaml_c++held++held_t+Destruct.drop.Met as drop_met
-use Rattle.yaml_c.proofs.yaml_c++held++held_t+Destruct.drop.Reads as drop_reads
-use Rattle.yaml_c.proofs.yaml_c++held++held_t+Destruct.drop.Symbol as drop_symbol
+use Rattle.yaml_c.proofs.yaml_c++kinds++held_any_t+Destruct.drop.Kinds as drop_kinds
+use Rattle.yaml_c.proofs.yaml_c++kinds++held_any_t+Destruct.drop.Met as drop_met
+use Rattle.yaml_c.proofs.yaml_c++kinds++held_any_t+Destruct.drop.Reads as drop_reads
+use Rattle.yaml_c.proofs.yaml_c++kinds++held_any_t+Destruct.drop.Symbol as drop_symbol
 use borrow.Fn.Glue.{glue_by}
 use borrow.Fn.Impl.{via_longer}
 use borrow.Fn.Kinds.{ended_of, stays, ParamKind, ResultKind, r_unit}
@@ -95,7 +95,7 @@ unfolding drop_code
 of_spec {M} 𝓤 𝓛 𝓜 𝓡 wired =
     let H = 𝓛.H in let 𝓣 = tables 𝓤 H 𝓜 𝓡 𝓡.env in let En = ended in let c = clauses 𝓛 𝓜.mem 𝓡.returns in
     let dd = impl ("yaml_c::Destruct++none::drop" ∷ []) (tcons (layout Z) tnil) dnil in
-    let dx = impl ("yaml_c::yaml_c++held++held_t+Destruct::drop" ∷ []) tnil dnil in
+    let dx = impl ("yaml_c::yaml_c++kinds++held_any_t+Destruct::drop" ∷ []) tnil dnil in
     let E : box.Bx = record { row = X; laws = LX; al = record { row = Z; laws = LZ; g = heap.ghosts; d = heap.dict; drops = dd } } in
     let fn = code.function in
     let glue = glue_by X LX (record { M = M; 𝓤 = 𝓤; 𝓛 = 𝓛; 𝓜 = 𝓜; 𝓡 = 𝓡 }) dx 𝓡.env
@@ -110,7 +110,7 @@ of_spec {M} 𝓤 𝓛 𝓜 𝓡 wired =
     (λ κs a. AllWithin 1 (κs.0, tt) (X.lives, tt) × Unit {0}) (method dx 0 (layouts [] tt)) 1 ((0, tt), tt) (λ κs. ([], tt)) (λ κs a. drop_reads.Asked ([], tt) a) (λ κs a p. ((⊑_static κs.0, tt), tt))
     (λ κs bd within a vss qs. drop_reads.known (record { M = M; 𝓤 = 𝓤; 𝓛 = 𝓛; 𝓜 = 𝓜; 𝓡 = 𝓡 }) 𝓡.env (method dx 0 (layouts [] tt)) (𝓡.env (method dx 0 (layouts [] tt))) refl
     (widened 𝓤 H _ 𝓜 𝓡 𝓡.env (𝓡.env drop_symbol.name) (𝓡.env (method dx 0 (layouts [] tt)))
-    (drop_symbol.as_method 𝓡.env (code.calls-yaml_c::yaml_c++held++held_t+Destruct::drop 𝓡.env wired) (method dx 0 (layouts [] tt)) refl) (drop_met.met 𝓤 𝓛 𝓜 𝓡 (code.calls-yaml_c::yaml_c++held++held_t+Destruct::drop 𝓡.env wired)))
+    (drop_symbol.as_method 𝓡.env (code.calls-yaml_c::yaml_c++kinds++held_any_t+Destruct::drop 𝓡.env wired) (method dx 0 (layouts [] tt)) refl) (drop_met.met 𝓤 𝓛 𝓜 𝓡 (code.calls-yaml_c::yaml_c++kinds++held_any_t+Destruct::drop 𝓡.env wired)))
     ((([], tt), qs, (⊑_static [], tt), a, vss), tt))) in
     let known = met 𝓤 𝓛 𝓜 𝓡 (code.calls-std_alloc::boxed::Box::into_raw 𝓡.env wired) X Z LX LZ heap.ghosts heap.dict dd dx
     (heap_met.passed 𝓡.env (code.calls-std_heap::GlobalAllocator::allocate 𝓡.env wired) (code.calls-std_heap::GlobalAllocator::deallocate 𝓡.env wired) (code.calls-std_heap::GlobalAllocator::grow 𝓡.env wired) (code.calls-std_heap::GlobalAllocator::shrink 𝓡.env wired) M 𝓤 𝓛 𝓜 𝓡)
