@@ -113,11 +113,13 @@ struct bogzhami_handle {
 enum bogzhami_status {
     BOGZHAMI_DONE = 0,      /* the call did what it does; after bogzhami_next more may come */
     BOGZHAMI_FAULT = 1,     /* the answer has the fault that comes next, after the tokens of the call */
-    BOGZHAMI_WRONG = 2,     /* no such encoding, or a key limit that is not from 1 to 65536 */
-    BOGZHAMI_NO_MEMORY = 3, /* memory was refused in bogzhami_open or bogzhami_place */
+    BOGZHAMI_WRONG = 2,     /* no such encoding, a key limit that is not from 1 to 65536, or no such window of the input */
+    BOGZHAMI_NO_MEMORY = 3, /* memory was refused in bogzhami_open, bogzhami_open_pieces or bogzhami_place */
     BOGZHAMI_OVER = 4,      /* the stream end, or the fault, was returned before */
     BOGZHAMI_NO_ROOM = 5,   /* the texts of what comes next are longer than the room for texts */
-    BOGZHAMI_NOT_LIVE = 6   /* the handle holds no scanner */
+    BOGZHAMI_NOT_LIVE = 6,  /* the handle holds no scanner, or none of the kind that the call is for */
+    BOGZHAMI_MORE = 7,      /* bogzhami_next_piece gave all that is settled: more of the input has to come */
+    BOGZHAMI_WHOLE = 8      /* the input of bogzhami_next_piece is in UTF-16: all of it has to come before its tokens */
 };
 
 /* The values are those of libyaml 0.2.5. */
@@ -176,13 +178,13 @@ enum bogzhami_error {
 /* The caller is responsible for this, in every call:
  * - A handle is BOGZHAMI_CLOSED before its first call. After that only these functions change it, and it is not copied.
  * - The input is the same in every call with a handle, from bogzhami_open to bogzhami_close: the same bytes, not only the same
- *   address.
+ *   address. If it comes in pieces, so are the bytes of it that came before.
  * - A handle is used by one thread at a time.
  * - No pointer is null but that of an input of length 0. A pointer whose length is 0 is never followed.
  * - Lengths are those of memory that is there and that was written before, as by calloc; none is above half of the address
  *   space. tokens_len counts records, texts_len counts bytes.
- * - No two of the handle, the input, the rooms, the answer and the mark overlap, and no other thread writes to them during the
- *   call.
+ * - No two of the handle, the input or its window, the rooms, the answer, the mark and *needed_from overlap, and no other thread
+ *   writes to them during the call.
  * - malloc, realloc and free are of one allocator and align to 16 bytes. No call is made by a signal handler or by the forked
  *   child of a process with threads.
  * Calls with different handles share nothing, so several threads may call at once. */
@@ -216,11 +218,52 @@ uint32_t bogzhami_next(struct bogzhami_handle *handle, const uint8_t *input, siz
 uint32_t bogzhami_peek(struct bogzhami_handle *handle, const uint8_t *input, size_t input_len, struct bogzhami_token *token,
                        uint8_t *texts, size_t texts_len, struct bogzhami_answer *answer);
 
+/* Opens a scanner that is given its input in pieces, as they come from a pipe or a socket. What the handle held before is freed.
+ *
+ * The encoding and the key limit are those of bogzhami_open, and so is what is returned. Only bogzhami_next_piece and
+ * bogzhami_close are for such a handle; for bogzhami_next, bogzhami_peek and bogzhami_reach it is not live. */
+uint32_t bogzhami_open_pieces(struct bogzhami_handle *handle, uint32_t encoding, uint32_t key_limit);
+
+/* Gives the next tokens of an input that comes in pieces: whole ones only, as many as both rooms hold, and each as soon as no more
+ * bytes can change it. Whatever the pieces are, the tokens of all calls are in order those of the whole input, and so is the
+ * fault; none is ever taken back.
+ *
+ *     uint64_t needed;
+ *     size_t len = 0;                                  // how many bytes came
+ *     bool last = false;                               // whether they are all
+ *     uint32_t status = bogzhami_open_pieces(&handle, BOGZHAMI_ANY_ENCODING, 1024);
+ *     while (status == BOGZHAMI_DONE || status == BOGZHAMI_MORE || status == BOGZHAMI_WHOLE) {
+ *         if (status != BOGZHAMI_DONE && !read_more(&input, &len))
+ *             last = true;
+ *         status = bogzhami_next_piece(&handle, 0, input, len, last, tokens, 256, texts, sizeof texts, &answer, &needed);
+ *         for (uint64_t i = 0; i < answer.token_count; i++)
+ *             use(&tokens[i], texts);
+ *     }
+ *
+ * The window is what the caller has of the input: its bytes from the number `from` on. *needed_from is from which byte on the next
+ * call needs it, and `from` is at most that. In this version it is 0: a window is all that came. `last` says that no more will
+ * come. From call to call the bytes stay what they are, at any address, and more may come behind them; if last was set, none
+ * comes, and it stays set.
+ *
+ * Returns what bogzhami_next returns, and
+ * - BOGZHAMI_MORE if the tokens were given that are settled, answer->token_count of them, 0 or more: the next call is made once
+ *   more bytes came, or with last. It is not returned if last is set.
+ * - BOGZHAMI_WHOLE, with no token, if the input is in UTF-16: its tokens come after all of it came, in calls with last.
+ * - BOGZHAMI_WRONG if `from` is not 0, if the window has fewer bytes than in the call before, or if it has more or last is not set
+ *   though it was set before. Nothing is put then, the answer is zeros, and the scanner stays as it is.
+ *
+ * The input_at of a token is BOGZHAMI_NOWHERE. A lexeme that is not whole is read again from its start once more came. So while
+ * calls give no token, as within a long literal, a caller waits until the window has grown by a share of itself, such as a
+ * quarter; then all calls take time in proportion to the input. The example pieces.c does that, and is a whole program. */
+uint32_t bogzhami_next_piece(struct bogzhami_handle *handle, uint64_t from, const uint8_t *window, size_t window_len, bool last,
+                             struct bogzhami_token *tokens, size_t tokens_len, uint8_t *texts, size_t texts_len,
+                             struct bogzhami_answer *answer, uint64_t *needed_from);
+
 /* How far the last step without a fault was read: zeros before the first one. Returns BOGZHAMI_DONE, or BOGZHAMI_NOT_LIVE, and then *mark is zeros. */
 uint32_t bogzhami_reach(struct bogzhami_handle *handle, struct bogzhami_mark *mark);
 
 /* The encoding of the input, as a number of bogzhami_encoding: the one that was set, or that of the byte order mark. It is
- * BOGZHAMI_ANY_ENCODING, 0, if the handle holds nothing. */
+ * BOGZHAMI_ANY_ENCODING, 0, if the handle holds no scanner of bogzhami_open. */
 uint32_t bogzhami_encoding(struct bogzhami_handle *handle);
 
 /* Frees what a handle holds, at any time. Returns BOGZHAMI_DONE, or BOGZHAMI_NOT_LIVE if it held nothing; then it does nothing. */

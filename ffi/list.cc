@@ -1,34 +1,13 @@
 // list [ENC [LIMIT]] < FILE: lists the tokens of a file, one a line, as `./run scan ENC LIMIT` does.
 // An example of bogzhami.h in C++17. The exit status is 0; 1 if there is a fault; 2 for wrong words; 3 if reading, writing or a
 // request for memory fails.
-#include "bogzhami.h"
+#include "listing.hh"
 
-#include <algorithm>
-#include <array>
-#include <cerrno>
-#include <charconv>
-#include <cstdint>
 #include <cstdio>
-#include <getopt.h>
-#include <iostream>
 #include <iterator>
-#include <new>
-#include <stdexcept>
-#include <string>
-#include <string_view>
-#include <system_error>
 #include <vector>
 
 namespace {
-
-constexpr std::array<std::string_view, 4> settings{"any", "utf8", "utf16le", "utf16be"};
-constexpr std::string_view help =
-    "Lists the tokens of a file, one a line.\n\n"
-    "  ENC            any, utf8, utf16le or utf16be; any without it\n"
-    "  LIMIT          the key limit, 1 to 65536; 1024 without it\n"
-    "  -h, --help     print this\n"
-    "      --version  print the version\n\n"
-    "The exit status is 0; 1 if there is a fault; 2 for wrong words; 3 if reading, writing or a request for memory fails.\n";
 
 // A scanner of an input, which has to outlive it. It is closed when it goes out of scope, and is not copied.
 class Scanner {
@@ -56,10 +35,8 @@ public:
 
     // The batch that was read last, the fault after it, and texts of both.
     std::vector<bogzhami_token> tokens = std::vector<bogzhami_token>(256);
+    std::vector<std::uint8_t> texts = std::vector<std::uint8_t>(1 << 14);
     bogzhami_answer answer{};
-    std::string_view text(std::uint64_t at, std::uint64_t len) const {
-        return {reinterpret_cast<const char *>(texts.data()) + at, static_cast<std::size_t>(len)};
-    }
 
 private:
     const std::uint8_t *bytes() const { return reinterpret_cast<const std::uint8_t *>(input.data()); }
@@ -69,120 +46,22 @@ private:
 
     std::string_view input;
     bogzhami_handle handle = BOGZHAMI_CLOSED;
-    std::vector<std::uint8_t> texts = std::vector<std::uint8_t>(1 << 14);
 };
 
-std::ostream &operator<<(std::ostream &out, const bogzhami_mark &mark) {
-    return out << ' ' << mark.index << ':' << mark.line << ':' << mark.column;
-}
-
-std::string hex(std::string_view text) {
-    static const char digits[] = "0123456789abcdef";
-    std::string made{text.empty() ? " -" : " "};
-    for (unsigned char byte : text)
-        made += {digits[byte >> 4], digits[byte & 15]};
-    return made;
-}
-
-void list_token(const Scanner &scanner, const bogzhami_token &token) {
-    std::string_view first = scanner.text(token.text_at, token.first_len);
-    std::string_view second = scanner.text(token.text_at + token.first_len, token.second_len);
-    std::cout << bogzhami_token_name(token.token_type) << token.start_mark << token.end_mark;
-    switch (token.token_type) {
-    case BOGZHAMI_STREAM_START_TOKEN:
-        std::cout << ' ' << bogzhami_encoding_name(token.detail);
-        break;
-    case BOGZHAMI_VERSION_DIRECTIVE_TOKEN:
-        std::cout << ' ' << token.major << ' ' << token.minor;
-        break;
-    case BOGZHAMI_TAG_DIRECTIVE_TOKEN:
-    case BOGZHAMI_TAG_TOKEN:
-        std::cout << hex(first) << hex(second);
-        break;
-    case BOGZHAMI_ALIAS_TOKEN:
-    case BOGZHAMI_ANCHOR_TOKEN:
-        std::cout << hex(first);
-        break;
-    case BOGZHAMI_SCALAR_TOKEN:
-        std::cout << ' ' << bogzhami_style_name(token.detail) << hex(first);
-        break;
-    }
-    std::cout << '\n';
-}
-
-void list_fault(const Scanner &scanner) {
-    const bogzhami_answer &answer = scanner.answer;
-    std::string_view problem = scanner.text(answer.text_len, answer.problem_len);
-    std::string_view context = scanner.text(answer.text_len + answer.problem_len, answer.context_len);
-    switch (answer.error) {
-    case BOGZHAMI_READER_ERROR:
-        std::cout << "FAULT reader " << answer.problem_offset << ' ' << answer.problem_value << ' ' << problem << '\n';
-        break;
-    case BOGZHAMI_SCANNER_ERROR:
-        std::cout << "FAULT scanner" << answer.context_mark << answer.problem_mark << ' '
-                  << (context.empty() ? "-" : context) << "; " << problem << '\n';
-        break;
-    default:
-        std::cout << "FAULT memory\n";
-    }
-}
-
 // Lists all tokens and the fault after them, and returns whether there is one.
-bool list(std::string_view input, std::uint32_t encoding, std::uint32_t key_limit) {
-    Scanner scanner{input, encoding, key_limit};
+bool list(std::string_view input, const Words &words) {
+    Scanner scanner{input, words.encoding, words.key_limit};
     while (std::cout) {
         std::uint32_t status = scanner.next();
         for (std::uint64_t i = 0; i < scanner.answer.token_count; i++)
-            list_token(scanner, scanner.tokens[i]);
+            list_token(scanner.tokens[i], scanner.texts.data());
         if (status == BOGZHAMI_FAULT)
-            list_fault(scanner);
+            list_fault(scanner.answer, scanner.texts.data());
         if (status != BOGZHAMI_DONE)
             return status == BOGZHAMI_FAULT;
     }
     return false;
 }
-
-// The words of the command. Wrong ones are thrown as what is wrong with them, which is empty if getopt_long has said it.
-struct Words {
-    std::uint32_t encoding = BOGZHAMI_ANY_ENCODING;
-    std::uint32_t key_limit = 1024;
-    int option; // the option that comes first, or -1
-
-    Words(int argc, char **argv) : option{option_of(argc, argv)} {
-        if (option != -1)
-            return;
-        const char *const *words = argv + optind;
-        if (optind < argc)
-            encoding = encoding_of(words[0]);
-        if (optind + 1 < argc)
-            key_limit = limit_of(words[1]);
-        if (optind + 2 < argc)
-            throw std::invalid_argument{"there is no use for '" + std::string{words[2]} + "'"};
-    }
-
-    static int option_of(int argc, char **argv) {
-        static const ::option options[] = {{"help", no_argument, nullptr, 'h'}, {"version", no_argument, nullptr, 'v'}, {}};
-        int found = getopt_long(argc, argv, "h", options, nullptr);
-        if (found == '?')
-            throw std::invalid_argument{""};
-        return found;
-    }
-
-    static std::uint32_t encoding_of(std::string_view word) {
-        auto found = std::find(settings.begin(), settings.end(), word);
-        if (found == settings.end())
-            throw std::invalid_argument{"there is no encoding '" + std::string{word} + "'"};
-        return static_cast<std::uint32_t>(found - settings.begin());
-    }
-
-    static std::uint32_t limit_of(std::string_view word) {
-        std::uint32_t limit = 0;
-        auto [end, error] = std::from_chars(word.data(), word.data() + word.size(), limit);
-        if (error != std::errc{} || end != word.data() + word.size() || limit < 1 || limit > 65536)
-            throw std::invalid_argument{"there is no key limit '" + std::string{word} + "'"};
-        return limit;
-    }
-};
 
 std::string read_all() {
     std::string input{std::istreambuf_iterator<char>{std::cin}, {}};
@@ -191,51 +70,8 @@ std::string read_all() {
     return input;
 }
 
-void flush() {
-    if (!std::cout.flush())
-        throw std::system_error{errno, std::generic_category(), "standard output"};
-}
-
-// What the program was called by.
-std::string program = "list";
-
-int fail(const char *what) {
-    std::cerr << program << ": " << what << '\n';
-    return 3;
-}
-
-int refuse_words(std::string_view what) {
-    if (!what.empty())
-        std::cerr << program << ": " << what << '\n';
-    std::cerr << "usage: " << program << " [any|utf8|utf16le|utf16be [LIMIT]] < FILE    (LIMIT is 1 to 65536)\n";
-    return 2;
-}
-
-// Does what the words say, and returns whether there is a fault.
-bool obey(const Words &words) {
-    if (words.option == 'h')
-        std::cout << "usage: " << program << " [ENC [LIMIT]] < FILE\n\n" << help;
-    else if (words.option == 'v')
-        std::cout << program << " (Bogzhami) " << bogzhami_version() << '\n';
-    else
-        return list(read_all(), words.encoding, words.key_limit);
-    return false;
-}
+bool list_input(const Words &words) { return list(read_all(), words); }
 
 } // namespace
 
-int main(int argc, char **argv) try {
-    if (argc > 0) {
-        program = std::string_view{argv[0]}.substr(std::string_view{argv[0]}.rfind('/') + 1);
-        argv[0] = program.data(); // getopt_long names it
-    }
-    bool has_fault = obey(Words{argc, argv});
-    flush();
-    return has_fault;
-} catch (const std::invalid_argument &error) {
-    return refuse_words(error.what());
-} catch (const std::system_error &error) {
-    return error.code() == std::errc::broken_pipe ? 3 : fail(error.what());
-} catch (const std::bad_alloc &) {
-    return fail("out of memory");
-}
+int main(int argc, char **argv) { return run(argc, argv, "Lists the tokens of a file, one a line.", list_input); }

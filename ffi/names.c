@@ -9,9 +9,10 @@ static const char *const tokens[] = {"NO-TOKEN", "STREAM-START", "STREAM-END", "
 static const char *const styles[] = {"any", "plain", "single", "double", "literal", "folded"};
 static const char *const encodings[] = {"ANY", "UTF8", "UTF16LE", "UTF16BE"};
 static const char *const errors[] = {"none", "memory", "reader", "scanner", "parser", "composer", "writer", "emitter"};
-static const char *const statuses[] = {"done", "the input has a fault", "no such encoding or key limit", "out of memory",
-                                       "all tokens were given", "a text is longer than the room for texts",
-                                       "the handle holds no scanner"};
+static const char *const statuses[] = {"done", "the input has a fault", "no such encoding, key limit or window",
+                                       "out of memory", "all tokens were given",
+                                       "a text is longer than the room for texts", "the handle holds no scanner",
+                                       "more of the input has to come", "all of an input in UTF-16 has to come"};
 
 /* The text of a number in a table, or "unknown" if the table ends before. */
 static const char *text_of(const char *const *table, size_t count, uint32_t number) {

@@ -6,17 +6,19 @@ needed and with about half of it; the tokens and the fault are the expected ones
 token's text, and nothing else in a room has changed. Wrong settings and limits touch nothing but the answer. The places of
 offsets are those that Python's codecs find (lib/offsets.py). A fault of the reader comes in the place of the step near it. The
 records have the same sizes and places in C, in Rust and in the crate, and the header's numbers are the crate's. The examples
-list.c, list.cc and list.rs list what is expected, and list.c frees all that it took; all three say what they are, and what is
-wrong with their words, their input and their output. The examples in ffi/README.md, the header and the manual page are
-compiled as they stand there, and give the expected tokens, also of a text of 50 MB (lib/pages.py). The library exports the
-names of the header, with the version that VERSION has, and names their numbers. Each request for memory of list.c is refused
-in turn.
+list.c, pieces.c, list.cc, pieces.cc and list.rs list what is expected, and those in C free all that they took; all say what
+they are, and what is wrong with their words, their input and their output. pieces.c and pieces.cc list what is settled before
+more comes, and after a read that fails, and give no byte again too often (lib/piped.py). The examples in ffi/README.md, the
+header and the manual page are compiled as they stand there, and give the expected tokens, also of a text of 50 MB
+(lib/pages.py). The library exports the names of the header, with the version that VERSION has, and names their numbers. Each
+request for memory of list.c and pieces.c is refused in turn, and each of the crate's example that lists pieces, which ends at
+once if it is a request of Rust's own.
 
-A scanner that is held gives what the scan at once gives, whatever the batches, rooms, peeks, turns, threads and refused
-requests are, wherever it is closed, and whichever other scanners of its input are closed before (held.c); valgrind and the
-address sanitizer find nothing. It takes less than a megabyte besides a long input. How far it has read is that of paces.txt.gz.
-scanner.rs gives the same tokens one by one, in batches and after peeks, and borrows from the input what it can (held.rs). What
-needs a C compiler, its address sanitizer, rustc or valgrind is skipped if there is none.
+A scanner that is held gives what the scan at once gives, whatever the batches, rooms, pieces, peeks, turns, threads and
+refused requests are, wherever it is closed, and whichever other scanners of its input are closed before (held.c); valgrind and
+the address sanitizer find nothing. It takes less than a megabyte besides a long input. How far it has read is that of
+paces.txt.gz. scanner.rs gives the same tokens one by one, in batches, after peeks and of an input in pieces, and borrows from
+the input what it can (held.rs). What needs a C compiler, its address sanitizer, rustc or valgrind is skipped if there is none.
 """
 
 import ctypes as c
@@ -24,6 +26,7 @@ import gzip
 import os
 import re
 import shutil
+import signal
 import subprocess
 import sys
 import tempfile
@@ -33,12 +36,13 @@ HERE = os.path.dirname(os.path.abspath(__file__))
 CRATE = os.path.join(os.path.dirname(HERE), "crates", "yaml_c", "src")
 sys.path.insert(0, os.path.join(HERE, "lib"))
 sys.dont_write_bytecode = True
-from held import FFI, SETTINGS, VALGRIND, Handle, build_held, build_rust, inputs_of_tests, try_long, try_reach
+from held import FFI, SETTINGS, VALGRIND, Handle, build_held, build_rust, build_rust_example, inputs_of_tests, try_long, try_reach
 from held import try_rust, try_sanitized, try_tests, try_valgrind
 from library import VERSION, build_library
 from offsets import try_places
 from pages import try_pages
-from worked import MEMORY, build_refuser, run
+from piped import build_pieces, try_pipes
+from worked import MEMORY, build_refuser, run, run_counted
 from wrong_uses import RUST, try_name_calls, try_wrong_uses
 
 PLAIN = {"u32": c.c_uint32, "i32": c.c_int32, "u64": c.c_uint64}
@@ -329,23 +333,23 @@ def lists_wrong(program, row):
     return (done.stdout.decode("ascii").split("\n")[:-1], done.returncode) != (wanted, status)
 
 
-def refused(program, refuser, data):
-    """Refuses each request for memory in turn until three runs in a row are whole; how many runs there were of each kind."""
-    whole = subprocess.run([program], input=data, capture_output=True, timeout=60).stdout.decode("ascii").split("\n")[:-1]
-    seen, in_a_row, number = {"whole": 0, "beginning": 0, "no room": 0, "wrong": 0}, 0, 0
-    while in_a_row < 3 and number < 2000:
-        number += 1
+def refused(program, refuser, data, no_room=3):
+    """Refuses each request for memory in turn, and one that is never made; how many runs there were of each kind. The status
+    no_room is that of a program that has no memory of its own."""
+    done, counts, _ = run_counted(program, [], data, refuser, 0)
+    whole = done.stdout.decode("ascii").split("\n")[:-1]
+    seen = {"whole": 0, "beginning": 0, "no room": 0, "wrong": 0}
+    for number in range(1, sum(counts) + 2):
         done = run(program, [], data, refuser, str(number))
         found = done.stdout.decode("ascii").split("\n")[:-1]
         kind = "wrong"
         if found == whole and done.returncode in (0, 1):
             kind = "whole"
-        elif done.returncode == 3 and found == whole[: len(found)]:
+        elif done.returncode == no_room and found == whole[: len(found)]:
             kind = "no room"
         elif done.returncode == 1 and found[-1:] == [MEMORY] and found[:-1] == whole[: len(found) - 1]:
             kind = "beginning"
         seen[kind] += 1
-        in_a_row = in_a_row + 1 if kind == "whole" else 0
     return seen
 
 
@@ -377,7 +381,7 @@ def try_names():
     told = subprocess.run(words, check=True, capture_output=True, text=True).stdout
     found = {line.split(" ")[-1] for line in told.splitlines()}
     print(f"ffi: {len(found) - 1} names exported, {len(found ^ wanted)} not those of the header {sorted(found ^ wanted) or ''}")
-    return found == wanted and len(names) == 14
+    return found == wanted and len(names) == 16
 
 
 def try_version():
@@ -434,20 +438,34 @@ def try_held(room, every, rust):
     return all(good)
 
 
-def try_memory(program, rows):
+def try_refused(program, *no_room):
+    """Whether a program gives right lines and then the fault, or has no room, where a request for memory is refused."""
     with tempfile.TemporaryDirectory() as room:
         refuser = build_refuser(room)
         with ThreadPoolExecutor(max_workers=os.cpu_count()) as pool:
-            seen = list(pool.map(lambda data: refused(program, refuser, data), SMALL))
+            seen = list(pool.map(lambda data: refused(program, refuser, data, *no_room), SMALL))
     total = {kind: sum(one[kind] for one in seen) for kind in seen[0]}
-    print(f"ffi: growths refused, {len(SMALL)} inputs: " + ", ".join(f"{count} {kind}" for kind, count in total.items()))
-    good = not total["wrong"] and total["whole"] and total["beginning"] and total["no room"]
+    told = ", ".join(f"{count} {kind}" for kind, count in total.items())
+    print(f"ffi: {os.path.basename(program)}: growths refused, {len(SMALL)} inputs: {told}")
+    return not total["wrong"] and total["whole"] and total["beginning"] and total["no room"]
+
+
+def try_pieces_in_rust(room, rows):
+    """The crate's example that lists pieces. Rust ends a program that has no memory of its own by SIGABRT."""
+    program = build_rust_example(room)
+    os.environ["RUST_BACKTRACE"] = "0"  # it would take most of the time
+    return try_examples([program], rows) and try_refused(program, -signal.SIGABRT)
+
+
+def try_memory(program, rows):
+    name = os.path.basename(program)
+    good = try_refused(program)
     if shutil.which("valgrind") is None:
         print("ffi: leaks skipped: no valgrind")
         return good
     with ThreadPoolExecutor(max_workers=os.cpu_count()) as pool:
         lost = sum(pool.map(lambda row: leaks(program, row), rows))
-    print(f"ffi: {len(rows)} inputs under valgrind, {lost} with a leak or a wrong access")
+    print(f"ffi: {name}: {len(rows)} inputs under valgrind, {lost} with a leak or a wrong access")
     return good and not lost
 
 
@@ -461,9 +479,10 @@ def main():
     if not rust:
         print("ffi: Rust skipped: no rustc of 1.63 or later")
     with tempfile.TemporaryDirectory() as room:
-        programs = [build_c(room)]
+        programs, pieces = [build_c(room), build_pieces(room, "pieces.c")], ["pieces.c"]
         if shutil.which("c++"):
-            programs.append(build_cplusplus(room))
+            programs += [build_cplusplus(room), build_pieces(room, "pieces.cc")]
+            pieces.append("pieces.cc")
         if rust:
             programs.append(os.path.join(room, RUST))
             build_rust(os.path.join(FFI, "list.rs"), programs[-1])
@@ -478,8 +497,11 @@ def main():
             try_examples(programs, every[::40]),
             try_pages(room, rust),
             try_wrong_uses(programs),
+            *[try_pipes(source, room) for source in pieces],
             try_memory(programs[0], every[::2000]),
+            try_memory(programs[1], every[::2000]),
             try_held(room, every, rust),
+            not rust or try_pieces_in_rust(room, every[::40]),
         ]
     return 0 if all(good) else 1
 

@@ -55,6 +55,7 @@ static uint8_t *texts;
 static struct input before;
 static struct whole whole_before;
 static struct bogzhami_answer answer;
+static const struct bogzhami_answer no_answer;
 
 static void check(bool is_right, const char *what) {
     checks++;
@@ -241,16 +242,20 @@ static uint32_t call_peek(struct run *r, size_t texts_len) {
     return bogzhami_peek(&r->handle, r->input->bytes, r->input->len, tokens, texts, texts_len, &answer);
 }
 
-/* Checks everything that a call of bogzhami_next returned and left behind. Returns its status, or BOGZHAMI_OVER if that
+/* Checks everything that a call returned and left behind which takes tokens. Returns its status, or BOGZHAMI_OVER if that
  * is wrong. */
-static uint32_t check_next(struct run *r, uint32_t status, size_t tokens_len, size_t texts_len) {
-    struct expected e = expect(r, tokens_len, texts_len);
-    check(status == e.status, "the status of bogzhami_next");
+static uint32_t check_taken(struct run *r, struct expected e, uint32_t status, size_t tokens_len, size_t texts_len) {
+    check(status == e.status, "the status of a call that takes tokens");
     check_left(r, e, tokens_len, texts_len);
     r->taken += e.count;
     bool is_last = r->whole->status == BOGZHAMI_DONE && r->taken == r->whole->answer.token_count;
     r->is_over = r->is_over || is_last || e.status == BOGZHAMI_FAULT;
     return status == e.status ? status : BOGZHAMI_OVER;
+}
+
+/* The same of bogzhami_next. */
+static uint32_t check_next(struct run *r, uint32_t status, size_t tokens_len, size_t texts_len) {
+    return check_taken(r, expect(r, tokens_len, texts_len), status, tokens_len, texts_len);
 }
 
 /* The same of bogzhami_peek, which takes nothing. */
@@ -404,10 +409,9 @@ static void try_threads(const struct input *i, const struct whole *w) {
     end(&r);
 }
 
-/* Checks that every call says that the handle holds nothing, and touches no room. */
-static void check_not_live(struct bogzhami_handle *handle, const struct input *i) {
+/* Checks that every call for a scanner of a whole input says that the handle holds none, and touches no room. */
+static void check_not_whole(struct bogzhami_handle *handle, const struct input *i) {
     static const struct bogzhami_mark zeros;
-    static const struct bogzhami_answer no_answer;
     struct bogzhami_mark mark = {1, 1, 1};
     fill_rooms(1, 0);
     check(bogzhami_next(handle, i->bytes, i->len, tokens, 1, texts, 0, &answer) == BOGZHAMI_NOT_LIVE, "next, not live");
@@ -419,6 +423,23 @@ static void check_not_live(struct bogzhami_handle *handle, const struct input *i
     check(bogzhami_reach(handle, &mark) == BOGZHAMI_NOT_LIVE, "reach, not live");
     check(!memcmp(&mark, &zeros, sizeof mark), "the mark of reach, not live");
     check(bogzhami_encoding(handle) == BOGZHAMI_ANY_ENCODING, "encoding, not live");
+}
+
+/* Checks that bogzhami_next_piece says that the handle holds no scanner for it, and touches no room. */
+static void check_not_pieces(struct bogzhami_handle *handle, const struct input *i) {
+    uint64_t needed_from = FILL;
+    fill_rooms(1, 0);
+    check(bogzhami_next_piece(handle, 0, i->bytes, i->len, true, tokens, 1, texts, 0, &answer, &needed_from) ==
+              BOGZHAMI_NOT_LIVE,
+          "next_piece, not live");
+    check(!memcmp(&answer, &no_answer, sizeof answer) && needed_from == 0, "the answer of next_piece, not live");
+    check(is_filled(tokens, tokens + 1 + SPARE) && is_filled(texts, texts + SPARE), "the rooms of next_piece, not live");
+}
+
+/* Checks that every call says that the handle holds nothing, and touches no room. */
+static void check_not_live(struct bogzhami_handle *handle, const struct input *i) {
+    check_not_whole(handle, i);
+    check_not_pieces(handle, i);
     check(bogzhami_close(handle) == BOGZHAMI_NOT_LIVE && !handle->live, "close, not live");
 }
 
@@ -687,12 +708,19 @@ static bool tell_refusals(void) {
     return is_each_seen;
 }
 
-/* A copy in a block of its own, of which a checker of memory sees the ends. */
+/* A copy in a block of its own, of which a checker of memory sees the ends. It is not counted, and never refused. */
 static void *copy_of(const void *bytes, size_t len) {
-    void *block = malloc(len);
+    void *block = __real_malloc(len);
     if (len)
         memcpy(need(block), bytes, len);
     return block;
+}
+
+/* Copies the block back, and frees it. */
+static void take_back(void *bytes, void *block, size_t len) {
+    if (len)
+        memcpy(bytes, block, len);
+    __real_free(block);
 }
 
 /* Places of offsets. */
@@ -733,7 +761,7 @@ static void try_offsets(const struct input *i, const struct whole *w) {
     try_offset(&alone, w->answer.problem_offset);
     try_offset(&alone, i->len);
     try_offset(&alone, UINT64_MAX);
-    free(alone.bytes);
+    __real_free(alone.bytes);
 }
 
 static bool tell_offsets(void) {
@@ -754,11 +782,8 @@ static uint32_t call_alone(struct run *r, size_t tokens_len, size_t texts_len) {
     uint32_t status =
         tokens_len ? bogzhami_next(&r->handle, i->bytes, i->len, own_tokens, tokens_len, own_texts, texts_len, &answer)
                    : bogzhami_peek(&r->handle, i->bytes, i->len, own_tokens, own_texts, texts_len, &answer);
-    memcpy(tokens, own_tokens, records * sizeof *tokens);
-    if (texts_len)
-        memcpy(texts, own_texts, texts_len);
-    free(own_tokens);
-    free(own_texts);
+    take_back(tokens, own_tokens, records * sizeof *tokens);
+    take_back(texts, own_texts, texts_len);
     return tokens_len ? check_next(r, status, tokens_len, texts_len) : check_peek(r, status, texts_len);
 }
 
@@ -975,6 +1000,508 @@ static bool tell_needs(void) {
     return is_each_seen;
 }
 
+/* Inputs that come in pieces. */
+
+enum { MOST_ROOM = 40, MOST_PIECES = 50, TIMES = 4, LONGEST_MARK = 3 };
+
+/* What is settled of an input by the bytes that came: how many tokens, and whether the fault is. */
+struct settled {
+    uint64_t count;
+    bool is_fault, is_known;
+};
+
+/* What is wanted of an input in pieces: the tokens, with no place in the input, and what each number of bytes settles, if that
+ * was asked for. */
+struct wanted {
+    struct whole whole;
+    struct settled *settled;
+};
+
+/* A scanner that is given its input in pieces: how many bytes came, and whether it was told that no more will. */
+struct feed {
+    struct run run;
+    struct settled *settled;
+    size_t came;
+    bool is_last;
+};
+
+static uint64_t random_state = 88172645463325252;
+
+static uint64_t random_number(void) {
+    random_state ^= random_state << 13;
+    random_state ^= random_state >> 7;
+    return random_state ^= random_state << 17;
+}
+
+static size_t random_to(size_t most) { return 1 + (size_t)(random_number() % most); }
+
+/* How many bytes a piece has: 1 to 65536, of each length of number as often. A long input gets no more than some pieces. */
+static size_t random_piece(size_t len) { return random_to((size_t)1 << random_number() % 17) + len / MOST_PIECES; }
+
+static struct wanted want(const struct input *i, const struct whole *w) {
+    struct wanted made = {*w, need(calloc(i->len + 1, sizeof *made.settled))};
+    made.whole.tokens = need(calloc(w->answer.token_count + 1, sizeof *w->tokens));
+    memcpy(made.whole.tokens, w->tokens, w->answer.token_count * sizeof *w->tokens);
+    for (uint64_t n = 0; n < w->answer.token_count; n++)
+        made.whole.tokens[n].input_at = BOGZHAMI_NOWHERE;
+    return made;
+}
+
+static void forget_wanted(struct wanted *wanted) {
+    free(wanted->whole.tokens);
+    free(wanted->settled);
+}
+
+static uint32_t open_pieces(struct bogzhami_handle *handle, const struct input *i) {
+    return bogzhami_open_pieces(handle, i->encoding, i->key_limit);
+}
+
+/* A scanner of pieces that is not open yet. */
+static struct feed new_feed(const struct input *i, const struct wanted *wanted) {
+    struct feed f = {{i, &wanted->whole, BOGZHAMI_CLOSED, 0, false}, wanted->settled, 0, false};
+    return f;
+}
+
+static struct feed begin_feed(const struct input *i, const struct wanted *wanted) {
+    struct feed f = new_feed(i, wanted);
+    check(open_pieces(&f.run.handle, i) == BOGZHAMI_DONE && f.run.handle.live, "bogzhami_open_pieces");
+    return f;
+}
+
+static void end_feed(struct feed *f) {
+    check(bogzhami_close(&f->run.handle) == BOGZHAMI_DONE && !f->run.handle.live, "closing a scanner of pieces");
+}
+
+/* Lets so many bytes more come, or those that are left; it is told in this call or in the next one that these are all. */
+static void come(struct feed *f, size_t size) {
+    size_t left = f->run.input->len - f->came;
+    f->is_last = size > left || left == 0;
+    f->came += size < left ? size : left;
+}
+
+/* Calls bogzhami_next_piece. The window and the rooms are in blocks of their own, of just this length. */
+static uint32_t call_piece(struct feed *f, size_t tokens_len, size_t texts_len) {
+    uint64_t needed_from = FILL;
+    fill_rooms(tokens_len, texts_len);
+    uint8_t *window = copy_of(f->run.input->bytes, f->came);
+    struct bogzhami_token *own_tokens = copy_of(tokens, tokens_len * sizeof *tokens);
+    uint8_t *own_texts = copy_of(texts, texts_len);
+    uint32_t status = bogzhami_next_piece(&f->run.handle, 0, window, f->came, f->is_last, own_tokens, tokens_len, own_texts,
+                                          texts_len, &answer, &needed_from);
+    check(needed_from == 0, "from where the window is needed");
+    take_back(tokens, own_tokens, tokens_len * sizeof *tokens);
+    take_back(texts, own_texts, texts_len);
+    __real_free(window);
+    return status;
+}
+
+/* What is settled of an input by its first bytes. A new scanner is given them in one piece, and room for all. */
+static struct settled settle(const struct input *i, const struct whole *w, size_t came) {
+    static struct bogzhami_token room[MOST_TOKENS];
+    struct settled s = {0, false, true};
+    struct bogzhami_handle handle = BOGZHAMI_CLOSED;
+    struct bogzhami_answer given;
+    uint64_t needed_from;
+    uint8_t *window = copy_of(i->bytes, came), *text_room = copy_of(w->texts, all_texts(w));
+    uint32_t status = open_pieces(&handle, i);
+    while (status == BOGZHAMI_DONE) {
+        status = bogzhami_next_piece(&handle, 0, window, came, false, room, MOST_TOKENS, text_room, all_texts(w), &given,
+                                     &needed_from);
+        s.count += given.token_count;
+    }
+    s.is_fault = status == BOGZHAMI_FAULT;
+    check(s.is_fault || status == BOGZHAMI_MORE || status == BOGZHAMI_WHOLE, "the status of what is settled");
+    check(s.count <= w->answer.token_count && (!s.is_fault || w->status == BOGZHAMI_FAULT), "more is settled than there is");
+    bogzhami_close(&handle);
+    __real_free(window);
+    __real_free(text_room);
+    return s;
+}
+
+/* What is settled for a scanner. Requests for memory that this makes are not counted as its own, and not refused. */
+static struct settled settled_for(const struct feed *f) {
+    long made = requests, first = first_refused, last = last_refused;
+    if (f->is_last)
+        return (struct settled){f->run.whole->answer.token_count, f->run.whole->status == BOGZHAMI_FAULT, true};
+    refuse(0, 0);
+    if (!f->settled[f->came].is_known)
+        f->settled[f->came] = settle(f->run.input, f->run.whole, f->came);
+    refuse(first, last);
+    requests = made;
+    return f->settled[f->came];
+}
+
+/* Whether it is known that the input is in UTF-16: it is set, or as many bytes came as the longest byte order mark has. */
+static bool is_known_utf16(const struct feed *f) {
+    struct input front = *f->run.input;
+    front.len = f->came < LONGEST_MARK ? 0 : f->came;
+    return encoding_of(&front) != BOGZHAMI_UTF8_ENCODING;
+}
+
+/* What a call has to return: the same as bogzhami_next, if what is settled were all. After that more has to come. */
+static struct expected expect_piece(const struct feed *f, size_t tokens_len, size_t texts_len) {
+    struct settled s = settled_for(f);
+    struct whole seen = *f->run.whole;
+    struct run r = f->run;
+    seen.answer.token_count = s.count;
+    seen.status = s.is_fault ? BOGZHAMI_FAULT : BOGZHAMI_DONE;
+    r.whole = &seen;
+    struct expected e = expect(&r, tokens_len, texts_len);
+    if (f->is_last || r.is_over || s.is_fault || e.count == tokens_len || r.taken + e.count < s.count)
+        return e;
+    e.status = is_known_utf16(f) ? BOGZHAMI_WHOLE : BOGZHAMI_MORE;
+    e.need = 0;
+    return e;
+}
+
+/* Calls bogzhami_next_piece, and checks everything. Returns its status, or BOGZHAMI_OVER if that is wrong. */
+static uint32_t next_piece(struct feed *f, size_t tokens_len, size_t texts_len) {
+    struct expected e = expect_piece(f, tokens_len, texts_len);
+    return check_taken(&f->run, e, call_piece(f, tokens_len, texts_len), tokens_len, texts_len);
+}
+
+/* The same; if a text has no room, once more with the room that it needs. */
+static uint32_t next_piece_by_need(struct feed *f, size_t tokens_len, size_t texts_len) {
+    uint32_t status = next_piece(f, tokens_len, texts_len);
+    if (status != BOGZHAMI_NO_ROOM)
+        return status;
+    if (answer.text_len <= all_texts(f->run.whole))
+        status = next_piece(f, tokens_len, (size_t)answer.text_len);
+    check(status != BOGZHAMI_NO_ROOM, "the room that was told is too short, or too long");
+    return status == BOGZHAMI_NO_ROOM ? BOGZHAMI_OVER : status;
+}
+
+static bool wants_more(uint32_t status) { return status == BOGZHAMI_MORE || status == BOGZHAMI_WHOLE; }
+
+/* Takes all that is left, by pieces of a size. */
+static void drain_pieces(struct feed *f, size_t size, size_t tokens_len, size_t texts_len) {
+    uint32_t status = BOGZHAMI_DONE;
+    while (status != BOGZHAMI_OVER && status != BOGZHAMI_FAULT) {
+        status = next_piece_by_need(f, tokens_len, texts_len);
+        if (wants_more(status))
+            come(f, size);
+    }
+    check(f->run.is_over && next_piece(f, tokens_len, texts_len) == BOGZHAMI_OVER, "what comes after all is given");
+}
+
+/* Takes all by pieces and with rooms of random sizes. */
+static void drain_randomly(struct feed *f) {
+    uint64_t most = all_texts(f->run.whole);
+    uint32_t status = BOGZHAMI_DONE;
+    while (status != BOGZHAMI_OVER) {
+        status = next_piece_by_need(f, random_to(MOST_ROOM), (size_t)(random_number() % (most + 1)));
+        if (wants_more(status))
+            come(f, random_piece(f->run.input->len));
+    }
+    check(f->run.is_over, "the end is not reached");
+}
+
+static void try_pieces(const struct input *i, const struct whole *w) {
+    struct wanted wanted = want(i, w);
+    long blocks_before = blocks;
+    for (size_t n = 0; n < TIMES; n++) {
+        struct feed f = begin_feed(i, &wanted);
+        drain_randomly(&f);
+        end_feed(&f);
+    }
+    check(blocks == blocks_before, "closing a scanner of pieces does not free all");
+    forget_wanted(&wanted);
+}
+
+static void try_bytes(const struct input *i, const struct whole *w) {
+    static const size_t rooms[] = {1, MOST_ROOM};
+    struct wanted wanted = want(i, w);
+    for (size_t n = 0; n < 2 * sizeof rooms / sizeof *rooms; n++) {
+        struct feed f = begin_feed(i, &wanted);
+        drain_pieces(&f, 1, rooms[n / 2], n % 2 ? all_texts(w) : 0);
+        end_feed(&f);
+    }
+    forget_wanted(&wanted);
+}
+
+/* Cuts: an input that comes in two pieces, and what is settled by the first. */
+
+/* What may come behind a beginning. The first is nothing. */
+static const char *const endings[] = {"", "x", " ", "\t", "\n", "\r\n", ":", ": ", "#", " #", "-", "\n...", "\n  x", "\nx: y",
+                                      "]", "}", ",", "\"", "'", "\x01", "\x82", "\xFF", "\xEF\xBB\xBF"};
+
+/* How many tokens and faults were settled by beginnings, and compared. */
+static uint64_t settled_tokens, settled_faults;
+
+/* Whether two scans have the same first tokens, wherever the inputs have their texts. */
+static bool begin_same(const struct whole *a, const struct whole *b, uint64_t count) {
+    if (a->answer.token_count < count || b->answer.token_count < count)
+        return false;
+    for (uint64_t n = 0; n < count; n++) {
+        struct bogzhami_token one = a->tokens[n], other = b->tokens[n];
+        one.input_at = other.input_at = BOGZHAMI_NOWHERE;
+        if (memcmp(&one, &other, sizeof one) || memcmp(a->texts + one.text_at, b->texts + other.text_at, text_len(&one)))
+            return false;
+    }
+    return true;
+}
+
+/* Whether two scans end with the same fault. */
+static bool end_same(const struct whole *a, const struct whole *b) {
+    return a->status == BOGZHAMI_FAULT && b->status == BOGZHAMI_FAULT && !memcmp(&a->answer, &b->answer, sizeof a->answer);
+}
+
+/* Checks that another end changes nothing of what is settled. */
+static void check_settled(const struct input *i, const struct whole *w, size_t cut, struct settled s) {
+    struct input other = *i;
+    for (size_t n = 0; n < sizeof endings / sizeof *endings; n++) {
+        size_t len = strlen(endings[n]);
+        other.len = cut + len;
+        other.bytes = need(malloc(cut + len + 1));
+        memcpy(other.bytes, i->bytes, cut);
+        memcpy(other.bytes + cut, endings[n], len);
+        struct whole found = scan_whole(&other);
+        check(begin_same(&found, w, s.count), "a token was settled that another end changes");
+        check(!s.is_fault || end_same(&found, w), "the fault was settled, and another end changes it");
+        forget(&other, &found);
+    }
+    settled_tokens += s.count;
+    settled_faults += s.is_fault;
+}
+
+static void try_cuts(const struct input *i, const struct whole *w) {
+    struct wanted wanted = want(i, w);
+    for (size_t cut = 0; cut <= i->len; cut++) {
+        check_settled(i, w, cut, settle(i, w, cut));
+        struct feed f = begin_feed(i, &wanted);
+        come(&f, cut);
+        f.is_last = false;
+        drain_pieces(&f, i->len + 1, MOST_ROOM, all_texts(w));
+        end_feed(&f);
+    }
+    forget_wanted(&wanted);
+}
+
+static bool tell_cuts(void) {
+    printf(", %llu tokens and %llu faults settled", (unsigned long long)settled_tokens, (unsigned long long)settled_faults);
+    return settled_tokens && settled_faults;
+}
+
+/* Wrong uses. */
+
+/* Checks that a window is refused: nothing is put, and the scanner stays as it is. */
+static void refuse_window(struct feed *f, uint64_t from, size_t came, bool is_last) {
+    uint64_t needed_from = FILL;
+    uint8_t *window = copy_of(f->run.input->bytes, came);
+    fill_rooms(1, 0);
+    check(bogzhami_next_piece(&f->run.handle, from, window, came, is_last, tokens, 1, texts, 0, &answer, &needed_from) ==
+              BOGZHAMI_WRONG,
+          "the status for a window that may not be given");
+    check(!memcmp(&answer, &no_answer, sizeof answer) && needed_from == 0, "the answer for a window that may not be given");
+    check(is_filled(tokens, tokens + 1 + SPARE) && is_filled(texts, texts + SPARE), "the rooms, with a wrong window");
+    __real_free(window);
+}
+
+/* Refuses all windows that may not be given. */
+static void refuse_windows(struct feed *f) {
+    size_t len = f->run.input->len;
+    refuse_window(f, 1, f->came, f->is_last);
+    refuse_window(f, UINT64_MAX, f->came, f->is_last);
+    if (f->came)
+        refuse_window(f, 0, f->came - 1, f->is_last);
+    if (f->came)
+        refuse_window(f, 0, 0, true);
+    if (f->is_last)
+        refuse_window(f, 0, len, false);
+    if (f->is_last && f->came < len)
+        refuse_window(f, 0, len, true);
+}
+
+/* Takes all by pieces, with wrong uses after each call. */
+static void drain_wrongly(struct feed *f) {
+    uint32_t status = BOGZHAMI_DONE;
+    refuse_window(f, 1, 0, false);
+    while (status != BOGZHAMI_OVER) {
+        status = next_piece(f, 2, all_texts(f->run.whole));
+        check(next_piece(f, 0, 0) == (f->run.is_over ? BOGZHAMI_OVER : BOGZHAMI_DONE), "a room for no tokens");
+        refuse_windows(f);
+        check_not_whole(&f->run.handle, f->run.input);
+        if (wants_more(status))
+            come(f, 3);
+    }
+    check(f->run.is_over, "the end is not reached");
+}
+
+/* A beginning of which it is told that it is all: more may not come. */
+static void end_early(const struct input *i) {
+    struct input front = *i;
+    front.len = i->len / 2;
+    struct whole w = scan_whole(&front);
+    struct wanted wanted = want(&front, &w);
+    lengthen_texts(&w);
+    struct feed f = begin_feed(&front, &wanted);
+    come(&f, front.len + 1);
+    next_piece(&f, 1, all_texts(&w));
+    f.run.input = i;
+    refuse_windows(&f);
+    f.run.input = &front;
+    drain_pieces(&f, 1, 2, all_texts(&w));
+    end_feed(&f);
+    forget_wanted(&wanted);
+    free(w.tokens);
+    free(w.texts);
+}
+
+/* Checks that settings are refused, and that what the handle held is freed, of either kind. */
+static void open_wrongly(const struct input *i, uint32_t encoding, uint32_t key_limit) {
+    struct bogzhami_handle handles[] = {BOGZHAMI_CLOSED, BOGZHAMI_CLOSED, BOGZHAMI_CLOSED};
+    check(open_run(&handles[1], i) == BOGZHAMI_DONE && open_pieces(&handles[2], i) == BOGZHAMI_DONE, "opening");
+    for (size_t n = 0; n < sizeof handles / sizeof *handles; n++) {
+        check(bogzhami_open_pieces(&handles[n], encoding, key_limit) == BOGZHAMI_WRONG, "wrong settings of pieces");
+        check_not_live(&handles[n], i);
+    }
+}
+
+/* Opens a handle anew again and again, for whole inputs and for pieces by turns, with some calls between. */
+static void open_by_turns(const struct input *i, const struct whole *w, const struct wanted *wanted) {
+    struct run r = begin(i, w);
+    struct feed f = new_feed(i, wanted);
+    next(&r, 2, all_texts(w));
+    check_not_pieces(&r.handle, i);
+    f.run.handle = r.handle;
+    check(open_pieces(&f.run.handle, i) == BOGZHAMI_DONE, "opening a live handle for pieces");
+    come(&f, i->len / 2 + 1);
+    next_piece(&f, 2, all_texts(w));
+    check(open_pieces(&f.run.handle, i) == BOGZHAMI_DONE, "opening a handle of pieces for pieces");
+    f.run.taken = 0;
+    f.run.is_over = false;
+    next_piece(&f, 2, all_texts(w));
+    r = (struct run){i, w, f.run.handle, 0, false};
+    check(open_run(&r.handle, i) == BOGZHAMI_DONE, "opening a handle of pieces for a whole input");
+    drain(&r, 3, all_texts(w));
+    end(&r);
+}
+
+/* A window of no bytes at no address. */
+static void give_nothing(const struct input *i) {
+    struct bogzhami_handle handle = BOGZHAMI_CLOSED;
+    uint64_t needed_from = FILL;
+    bool is_utf16 = i->encoding == BOGZHAMI_UTF16LE_ENCODING || i->encoding == BOGZHAMI_UTF16BE_ENCODING;
+    check(open_pieces(&handle, i) == BOGZHAMI_DONE, "opening for pieces");
+    for (size_t n = 0; n < 2; n++) {
+        fill_rooms(2, 0);
+        uint32_t status = bogzhami_next_piece(&handle, 0, NULL, 0, false, tokens, 2, texts, 0, &answer, &needed_from);
+        check(status == (is_utf16 ? BOGZHAMI_WHOLE : BOGZHAMI_MORE), "the status before anything came");
+        check(!memcmp(&answer, &no_answer, sizeof answer) && needed_from == 0, "the answer before anything came");
+    }
+    check(bogzhami_next_piece(&handle, 0, NULL, 0, true, tokens, 2, texts, 0, &answer, &needed_from) == BOGZHAMI_DONE &&
+              answer.token_count == 2,
+          "the tokens of an empty input");
+    check(bogzhami_close(&handle) == BOGZHAMI_DONE, "closing a scanner of pieces");
+}
+
+static void try_piece_uses(const struct input *i, const struct whole *w) {
+    struct wanted wanted = want(i, w);
+    long blocks_before = blocks;
+    struct feed f = begin_feed(i, &wanted);
+    drain_wrongly(&f);
+    end_feed(&f);
+    check_not_live(&f.run.handle, i);
+    open_wrongly(i, 4, i->key_limit);
+    open_wrongly(i, UINT32_MAX, i->key_limit);
+    open_wrongly(i, i->encoding, 0);
+    open_wrongly(i, i->encoding, 65537);
+    open_by_turns(i, w, &wanted);
+    give_nothing(i);
+    end_early(i);
+    check(blocks == blocks_before, "scanners of pieces leave blocks");
+    forget_wanted(&wanted);
+}
+
+/* Closes after so many calls, of which each second has no room for texts. Returns whether more may come after them. */
+static bool close_pieces_after(const struct input *i, const struct wanted *wanted, size_t size, size_t calls) {
+    long blocks_before = blocks;
+    struct feed f = begin_feed(i, wanted);
+    for (size_t n = 0; n < calls; n++)
+        if (wants_more(next_piece(&f, size, n % 2 ? 0 : all_texts(&wanted->whole))))
+            come(&f, size);
+    bool may_come = !f.run.is_over && !wrongs;
+    end_feed(&f);
+    check(blocks == blocks_before, "closing a scanner of pieces does not free all");
+    return may_come;
+}
+
+static void try_piece_closes(const struct input *i, const struct whole *w) {
+    static const size_t sizes[] = {1, 3, 20};
+    struct wanted wanted = want(i, w);
+    for (size_t n = 0; n < sizeof sizes / sizeof *sizes; n++)
+        for (size_t calls = 0; close_pieces_after(i, &wanted, sizes[n], calls); calls++)
+            ;
+    forget_wanted(&wanted);
+}
+
+/* Refused requests. */
+
+enum piece_place { IN_OPEN_PIECES, IN_PIECE, IN_LAST_PIECE, PIECE_PLACES };
+static const char *const piece_place_names[] = {"in open_pieces", "before the last piece", "in the last piece"};
+static long refused_in_pieces[PIECE_PLACES];
+
+/* Takes the next tokens. A request that is refused in the call is answered by the memory fault. Returns whether more may come. */
+static bool take_piece_refusal(struct feed *f, struct refusal *refusal, size_t size) {
+    size_t texts_len = all_texts(f->run.whole);
+    bool was_made = is_made(refusal);
+    struct expected e = expect_piece(f, refusal->tokens_len, texts_len);
+    uint32_t status = call_piece(f, refusal->tokens_len, texts_len);
+    if (is_made(refusal) && !was_made) {
+        refused_in_pieces[f->is_last ? IN_LAST_PIECE : IN_PIECE]++;
+        refusal->run = f->run;
+        check_memory(refusal, status, texts_len);
+        f->run.is_over = true;
+        return false;
+    }
+    status = check_taken(&f->run, e, status, refusal->tokens_len, texts_len);
+    if (wants_more(status))
+        come(f, size);
+    return status == BOGZHAMI_DONE || wants_more(status);
+}
+
+/* One run in which requests from a number to another are refused. Returns whether there were so many. */
+static bool run_piece_refusal(const struct input *i, const struct wanted *wanted, long first, long last, size_t size) {
+    long blocks_before = blocks;
+    struct feed f = new_feed(i, wanted);
+    struct refusal refusal = {f.run, size == 1 ? 1 : MANY, first, false, 0};
+    refuse(first, last);
+    uint32_t status = open_pieces(&f.run.handle, i);
+    bool is_refused_here = is_made(&refusal);
+    refused_in_pieces[IN_OPEN_PIECES] += is_refused_here;
+    check(status == (is_refused_here ? BOGZHAMI_NO_MEMORY : BOGZHAMI_DONE), "bogzhami_open_pieces, with memory or without");
+    if (status == BOGZHAMI_DONE) {
+        while (take_piece_refusal(&f, &refusal, size))
+            ;
+        check(next_piece(&f, 1, 0) == BOGZHAMI_OVER, "what comes after the end");
+        end_feed(&f);
+    }
+    bool were_so_many = is_made(&refusal);
+    refuse(0, 0);
+    check(blocks == blocks_before, "a refused request leaves blocks");
+    check_not_live(&f.run.handle, i);
+    return were_so_many;
+}
+
+/* Refuses each request in turn, alone and with all after it, in pieces of several sizes. */
+static void try_piece_refusals(const struct input *i, const struct whole *w) {
+    static const size_t sizes[] = {1, 7, 1000};
+    struct wanted wanted = want(i, w);
+    for (size_t n = 0; n < sizeof sizes / sizeof *sizes; n++)
+        for (long number = 1; run_piece_refusal(i, &wanted, number, number, sizes[n]); number++)
+            run_piece_refusal(i, &wanted, number, 1L << 40, sizes[n]);
+    forget_wanted(&wanted);
+}
+
+static bool tell_piece_refusals(void) {
+    bool is_each_seen = true;
+    for (size_t n = 0; n < PIECE_PLACES; n++) {
+        printf(", %ld refused %s", refused_in_pieces[n], piece_place_names[n]);
+        is_each_seen = is_each_seen && refused_in_pieces[n];
+    }
+    return is_each_seen;
+}
+
 /* The peak of memory. */
 
 /* The most memory that this process ever had, in kilobytes. */
@@ -1051,7 +1578,13 @@ static const struct {
              {"sizes", try_sizes, NULL},
              {"closes", try_closes, NULL},
              {"pairs", try_pairs, NULL},
-             {"needs", try_needs, tell_needs}};
+             {"needs", try_needs, tell_needs},
+             {"pieces", try_pieces, NULL},
+             {"bytes", try_bytes, NULL},
+             {"cuts", try_cuts, tell_cuts},
+             {"piece uses", try_piece_uses, NULL},
+             {"piece closes", try_piece_closes, NULL},
+             {"piece refusals", try_piece_refusals, tell_piece_refusals}};
 
 /* Runs a test, and keeps the input as the one before. */
 static void try_input(void (*test)(const struct input *, const struct whole *), struct input i) {

@@ -1,7 +1,8 @@
 /* ways WAY LIMIT ENCODING < INPUT: how many tokens an input has, taken by calls of bogzhami.h, for tests/ways.py.
  *
  * WAY is `all` (one bogzhami_scan_all), `batches` (calls of bogzhami_next, each for 256 tokens), `ones` (each for one
- * token) or `peeks` (each for one token, after a bogzhami_peek that shows the same). ENCODING is a number of
+ * token), `peeks` (each for one token, after a bogzhami_peek that shows the same) or `pieces` (calls of
+ * bogzhami_next_piece, each for 256 tokens, of an input that comes in growing pieces). ENCODING is a number of
  * bogzhami_encoding. The answer is a line: how many tokens there are up to the stream end or the fault, and the kind of
  * the fault, or `-` for none. It is `?` if a call returned something else. Nothing here takes memory but the calls, so
  * that their requests can be refused. */
@@ -12,7 +13,7 @@
 #include <string.h>
 #include <unistd.h>
 
-enum { MOST_INPUT = 1 << 23, MOST_TEXTS = 1 << 23, MOST_TOKENS = 1 << 20, BATCH = 256 };
+enum { MOST_INPUT = 1 << 23, MOST_TEXTS = 1 << 23, MOST_TOKENS = 1 << 20, BATCH = 256, LEAST_PIECE = 100 };
 
 static uint8_t input[MOST_INPUT], texts[MOST_TEXTS];
 static struct bogzhami_token tokens[MOST_TOKENS];
@@ -70,11 +71,40 @@ static struct taken take_by_calls(struct bogzhami_handle *handle, size_t len, si
     return t;
 }
 
+/* How many bytes have come after one piece more: a quarter of what came, so that long lexemes are not read too often. */
+static size_t come(size_t came, size_t len) {
+    size_t more = LEAST_PIECE + came / 4;
+    return more < len - came ? came + more : len;
+}
+
+static bool is_to_go_on(uint32_t status) {
+    return status == BOGZHAMI_DONE || status == BOGZHAMI_MORE || status == BOGZHAMI_WHOLE;
+}
+
+/* Takes all tokens of an input that comes in pieces. */
+static struct taken take_in_pieces(size_t len, uint32_t encoding, uint32_t limit) {
+    struct bogzhami_handle handle = BOGZHAMI_CLOSED;
+    struct taken t = {0, bogzhami_open_pieces(&handle, encoding, limit), {0}};
+    size_t came = 0;
+    uint64_t needed_from;
+    while (is_to_go_on(t.status)) {
+        if (t.status != BOGZHAMI_DONE)
+            came = come(came, len);
+        t.status = bogzhami_next_piece(&handle, 0, input, came, came == len, tokens, BATCH, texts, sizeof texts, &t.answer,
+                                       &needed_from);
+        t.count += t.answer.token_count;
+    }
+    bogzhami_close(&handle);
+    return t;
+}
+
 static struct taken take_all(const char *way, size_t len, uint32_t encoding, uint32_t limit) {
     struct bogzhami_handle handle = BOGZHAMI_CLOSED;
     struct taken t = {0, BOGZHAMI_WRONG, {0}};
     if (!strcmp(way, "all"))
         return take_at_once(len, encoding, limit);
+    if (!strcmp(way, "pieces"))
+        return take_in_pieces(len, encoding, limit);
     t.status = bogzhami_open(&handle, input, len, encoding, limit);
     if (t.status == BOGZHAMI_DONE)
         t = take_by_calls(&handle, len, strcmp(way, "batches") ? 1 : BATCH, !strcmp(way, "peeks"));

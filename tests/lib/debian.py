@@ -130,7 +130,7 @@ def wrong_homepage(folders, tarball):
 
 # Placeholders that a reader fills in, and what is made by commands of the documents.
 NO_PATHS = re.compile(r"(.*/)?(FILE|LIST|NAME|PROGRAM)\b.*|/path/to/.*|(.*/)?(out|target)(/.*)?|CMakeLists.txt|/|"
-                      r"bin/(list-c|list-rust|lint|highlight)")
+                      r"bin/(list-c|list-rust|pieces-c|lint|highlight)")
 KNOWN_ENDINGS = r"\.(antt|c|cc|h|html|md|png|py|rs|rt|toml|txt|yaml|gz|xz|pc|cmake)$"
 
 

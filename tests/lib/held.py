@@ -19,10 +19,11 @@ VALGRIND = [*CHECK, "--show-leak-kinds=all", "--errors-for-leak-kinds=all"]
 
 # Of which inputs of the vectors a test of held.c gets one: every input, every fifth. `inputs_of_tests` has the other tests.
 TESTS = {"batches": 1, "rooms": 1, "prefixes": 1, "peeks": 1, "turns": 1, "threads": 50, "statuses": 50, "refused": 200}
-TESTS.update({"sizes": 5, "closes": 5, "pairs": 5})
+TESTS.update({"sizes": 5, "closes": 5, "pairs": 5, "bytes": 5, "cuts": 20, "piece uses": 5, "piece closes": 50})
 # Of how many of its inputs a test gets one under valgrind. With the address sanitizer it gets ten times as many.
 CHECKED = {"prefixes": 400, "peeks": 400, "turns": 400, "threads": 40, "statuses": 20, "refused": 20}
 CHECKED.update({"sizes": 40, "closes": 40, "pairs": 80, "refusals": 5, "offsets": 5, "needs": 40})
+CHECKED.update({"pieces": 400, "bytes": 200, "cuts": 200, "piece uses": 200, "piece closes": 100, "piece refusals": 10})
 
 # The kinds of inputs whose requests for memory are refused one by one: each has an expected line of which this is true.
 KINDS = {
@@ -38,6 +39,7 @@ KINDS = {
     "faults of the scanner": lambda line: line.startswith("FAULT scanner "),
 }
 EACH_KIND = 10  # so many inputs of each kind
+SHORT = 100  # bytes of an input whose requests are refused for each way to cut it into pieces
 
 # Inputs whose texts have one of these lengths, on each side of the length up to which the library uses a text's room again.
 LENGTHS = [1, 2, 15, 16, 17, 1000, 4095, 4096, 4097, 70_000]
@@ -80,6 +82,8 @@ def inputs_of_tests(rows, small):
     inputs["refusals"] += [(["any"], data, None) for data in small]
     inputs["offsets"] = inputs["refusals"]
     inputs["needs"] = [*long_texts(), *rows[::10]]
+    inputs["pieces"] = [*long_texts(), *rows]
+    inputs["piece refusals"] = [row for row in inputs["refusals"] if len(row[1]) <= SHORT]
     return inputs
 
 
@@ -103,9 +107,19 @@ def build_sanitized(room):
     return program if done.returncode == 0 else None
 
 
-def build_rust(text, path):
+def build_rust(text, path, *words):
     link = "link-arg=" + os.path.join(FFI, "out", "libbogzhami.a")
-    subprocess.run(["rustc", "-O", "--edition", "2021", text, "-C", link, "-o", path], check=True)
+    subprocess.run(["rustc", "-O", "--edition", "2021", text, *words, "-C", link, "-o", path], check=True)
+
+
+def build_rust_example(room):
+    """Builds the crate's example that lists pieces, without cargo."""
+    crate, path = os.path.join(room, "libbogzhami.rlib"), os.path.join(room, "pieces_rs")
+    folder = os.path.join(os.path.dirname(HERE), "rust")
+    words = ["rustc", "-O", "--edition", "2021", os.path.join(folder, "src", "lib.rs"), "--crate-name", "bogzhami"]
+    subprocess.run([*words, "--crate-type", "rlib", "-o", crate], check=True)
+    build_rust(os.path.join(folder, "examples", "pieces.rs"), path, "--extern", "bogzhami=" + crate)
+    return path
 
 
 def run_test(words, data):

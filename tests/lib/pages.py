@@ -1,8 +1,8 @@
-"""The examples in C and Rust that ffi/README.md, bogzhami.h and the manual page have: compiled as they stand there, and run.
+"""The examples in C and Rust that ffi/README.md, bogzhami.h and the manual pages have: compiled as they stand there, and run.
 
 Those in C are also run on a text of 50 MB. The first loops have less room than that: they give the tokens before it, and say that
 more are left. The loop whose room grows gives all. What tells a fault stands there too: it prints line and column of a fault of
-the scanner and of one of the reader.
+the scanner and of one of the reader. The loops over an input in pieces are given pieces of some bytes.
 """
 
 import os
@@ -34,6 +34,28 @@ EXAMPLE
     return (int)status;
 }
 """
+# The same for an example over an input in pieces, which come from standard input.
+AROUND_PIECES = """#include "bogzhami.h"
+#include <stdio.h>
+CALLED
+/* Puts some bytes behind those that came; false at the end. */
+static bool read_more(uint8_t **input, size_t *len) {
+    size_t count = fread(*input + *len, 1, 1 + *len % 3, stdin);
+    *len += count;
+    return count > 0;
+}
+int main(void) {
+    static struct bogzhami_token tokens[256];
+    static uint8_t texts[60], room[100];
+    uint8_t *input = room;
+    struct bogzhami_handle handle = BOGZHAMI_CLOSED;
+    struct bogzhami_answer answer = {0};
+EXAMPLE
+    bogzhami_close(&handle);
+    puts(bogzhami_status_text(status));
+    return (int)status;
+}
+"""
 LONG = 50_000_000
 AROUND_RUST = """#[path = "MODULE"]
 mod scanner;
@@ -61,6 +83,14 @@ USED_WANTED = [
                      "1:4: SCALAR b c", "3:1: BLOCK-END ", "3:1: STREAM-END "]),
     (NEAR, ["1:1: STREAM-START ", "2:4: invalid leading UTF-8 octet"]),
 ]
+# Inputs of the loops over pieces, and what these print, with their statuses.
+ENTRY = "SCALAR b", "BLOCK-END ", "STREAM-END ", "all tokens were given"
+PIECES_WANTED = [
+    (b"a: b", ([*FRONT, *ENTRY], 4)),
+    ("\ufeffa: b".encode("utf-16-le"), ([*FRONT, *ENTRY], 4)),
+    (b"a: b: c", ([*FRONT, "SCALAR b", "the input has a fault"], 1)),
+    (b"a: " + b"x" * 97, ([*FRONT, "a text is longer than the room for texts"], 5)),
+]
 RUST_WANTED = ["StreamStart", "BlockMappingStart", "Key", "Scalar", "Value", "Scalar", "BlockEnd", "StreamEnd"]
 
 
@@ -69,14 +99,16 @@ def examples():
     return re.findall(r"((?:^    .*\n)+)", read("ffi/README.md"), re.M)
 
 
-def example_of_header():
-    """The examples in the comment at the front of bogzhami.h."""
-    return "".join(re.findall(r"^ \*     (.*\n)", read("ffi/bogzhami.h"), re.M))
+def example_of_header(call):
+    """The examples in the comment of bogzhami.h that makes a call."""
+    found = re.findall(r"^/\*.*?\*/$", read("ffi/bogzhami.h"), re.M | re.S)
+    comment = next(comment for comment in found if f"     uint32_t status = {call}(" in comment)
+    return "".join(re.findall(r"^ \*     (.*\n)", comment, re.M))
 
 
-def example_of_manual():
-    """The examples of the manual page, as groff would show them."""
-    found = re.findall(r"\n\.EX\n(.*?)\.EE\n", read("packaging/man/bogzhami.3"), re.S)
+def example_of_manual(page):
+    """The examples of a manual page, as groff would show them."""
+    found = re.findall(r"\n\.EX\n(.*?)\.EE\n", read(f"packaging/man/{page}.3"), re.S)
     return "".join(found).replace("\\e", "\\").replace("\\-", "-")
 
 
@@ -86,11 +118,11 @@ def parted(example):
     return tell, example.replace(tell, "")
 
 
-def build_c(room, called, example):
+def build_c(room, called, example, around=AROUND_C):
     """A program of what an example in C calls and of the example."""
     path = os.path.join(room, "page_c")
     with open(path + ".c", "w", encoding="utf-8") as text:
-        made = AROUND_C.replace("LONG", str(LONG)).replace("CALLED", called)
+        made = around.replace("LONG", str(LONG)).replace("CALLED", called)
         text.write(made.replace("EXAMPLE", indent(example, "    ")))
     library = os.path.join(FFI, "out", "libbogzhami.a")
     subprocess.run(["cc", "-std=c99", "-Wall", "-Wextra", "-Werror", "-I", FFI, path + ".c", library, "-o", path], check=True)
@@ -122,6 +154,15 @@ def try_used(room, use, tell, example):
     return not wrong
 
 
+def try_pieces(room, example):
+    """Whether a loop over an input in pieces prints what it should, on each input."""
+    path = build_c(room, USE, example, AROUND_PIECES)
+    wrong = [(data, found) for data, wanted in PIECES_WANTED if (found := run_c(path, data)) != wanted]
+    for row in wrong:
+        print(f"ffi: a loop over pieces: {row}")
+    return not wrong
+
+
 def lines_of(path):
     return subprocess.run([path], check=True, capture_output=True, text=True, timeout=60).stdout.splitlines()
 
@@ -138,9 +179,12 @@ def try_pages(room, rust):
     blocks = [dedent(example) for example in examples()]
     use, tell = (next(block for block in blocks if block.startswith(f"static void {name}(")) for name in ("use", "tell"))
     in_c = [(tell, block) for block in blocks if "bogzhami_open(" in block]
-    in_c += [parted(dedent(example)) for example in (example_of_header(), example_of_manual())]
+    in_c += [parted(dedent(example)) for example in (example_of_header("bogzhami_open"), example_of_manual("bogzhami"))]
+    in_pieces = [block for block in blocks if "bogzhami_open_pieces(" in block]
+    in_pieces += [example_of_header("bogzhami_open_pieces"), example_of_manual("bogzhami_next_piece")]
     in_rust = [example for example in examples() if "Scanner::new(" in example]
     good = [try_c(room, *example) for example in in_c] + [try_used(room, use, *in_c[0])]
+    good += [try_pieces(room, dedent(example)) for example in in_pieces]
     good += [try_rust_example(room, number, example) for number, example in enumerate(in_rust) if rust]
-    print(f"ffi: {len(good)} examples of ffi/README.md, bogzhami.h and bogzhami(3), {good.count(False)} wrong")
-    return all(good) and len(in_c) == 4 and len(in_rust) == 2
+    print(f"ffi: {len(good)} examples of ffi/README.md, bogzhami.h and the manual pages, {good.count(False)} wrong")
+    return all(good) and len(in_c) == 4 and len(in_pieces) == 3 and len(in_rust) == 2

@@ -95,6 +95,7 @@ WAYS = [
     Way("ways", "batches", "bogzhami_next"),
     Way("ways", "ones", "bogzhami_next"),
     Way("ways", "peeks", "bogzhami_peek", "bogzhami_next"),
+    Way("ways", "pieces", "bogzhami_next_piece"),
     Way("yamltok", "scan", "scan", has_limit=False),
     Way("yamltok", "scan LIMIT", "scan"),
     Way("yamltok", "calls", "calls", has_limit=False),
@@ -105,7 +106,7 @@ WAYS = [
 WITHOUT_TOKENS = {
     "a parser, whose tokens come by the calls of one": [
         "yaml_parser_t::new", "yaml_parser_t::with_key_limit", "yaml_kept_parser_t::new", "yaml_fed_parser_t::new",
-        "bogzhami_open", "bogzhami_close",
+        "bogzhami_open", "bogzhami_open_pieces", "bogzhami_close",
     ],
     "what a session shows": [
         "yaml_parser_fault", "yaml_parser_has_token", "yaml_parser_mark", "yaml_parser_queued", "yaml_kept_parser_t::mark",

@@ -1,4 +1,4 @@
-"""The calls of bogzhami.h for names, and what the examples list.c, list.cc and list.rs say of themselves and of wrong uses."""
+"""The calls of bogzhami.h for names, and what the examples list.c, pieces.c, list.cc, pieces.cc and list.rs say of themselves and of wrong uses."""
 
 import ctypes as c
 import os
@@ -19,8 +19,9 @@ NAMES = {
     "error_name": ("error", lambda name: "none" if name == "NO_ERROR" else name.removesuffix("_ERROR").lower()),
 }
 FIRST_TOKEN = {"NO": "NO-TOKEN"}
-STATUSES = ["done", "the input has a fault", "no such encoding or key limit", "out of memory", "all tokens were given",
-            "a text is longer than the room for texts", "the handle holds no scanner", "unknown"]
+STATUSES = ["done", "the input has a fault", "no such encoding, key limit or window", "out of memory", "all tokens were given",
+            "a text is longer than the room for texts", "the handle holds no scanner", "more of the input has to come",
+            "all of an input in UTF-16 has to come", "unknown"]
 
 RUST = "list_rs"  # the name that list.rs is built by
 
