@@ -1,11 +1,11 @@
 #!/usr/bin/env python3
 """Uses the crate of rust/ as those do who have a checkout, or the crate alone: crate.py [PROGRAM].
 
-In a copy of the checkout, in a folder with a blank in its name, its tests and its example run with no variable. From a crate
-of a user's, the library is found by a path that is absolute, and by one that is relative to where cargo is called. Where there
-is none, the message has the whole path that was looked at, and names ffi/build. What pkg-config says may have blanks. `cargo
-package` makes a crate that has all its sources, which builds elsewhere. A match on Data or Fault without an arm for others is
-refused.
+In a copy of the checkout, in a folder with a blank in its name, its tests and its examples run with no variable. The example
+that lists a pipe lists what is settled while the pipe is open. From a crate of a user's, the library is found by a path that
+is absolute, and by one that is relative to where cargo is called. Where there is none, the message has the whole path that was
+looked at, and names ffi/build. What pkg-config says may have blanks. `cargo package` makes a crate that has all its sources,
+which builds elsewhere. A match on Data or Fault without an arm for others is refused.
 
 It needs cargo and a C compiler, and is skipped, and says so, if there is none.
 """
@@ -18,6 +18,7 @@ import subprocess
 import sys
 import tarfile
 import tempfile
+import threading
 
 HERE = os.path.dirname(os.path.abspath(__file__))
 sys.path.insert(0, os.path.join(HERE, "lib"))
@@ -29,6 +30,18 @@ SMALL = b"a: 1"
 LISTED = [lines for words, data, lines in rows() if (words, data) == (["scan", "any"], SMALL)][0]
 DROPPED = ("BOGZHAMI_LIB_DIR", "PKG_CONFIG_PATH", "CARGO_TARGET_DIR", "RUSTFLAGS")
 NONE = {"PKG_CONFIG": "false"}  # finds no library
+
+# What comes by a pipe in two parts, and the lines after each.
+FIRST, SECOND = b"- a\n- 'the second'\n", b"- b"
+FIRST_LISTED = [
+    "STREAM-START 0:0:0 0:0:0 UTF8", "BLOCK-SEQUENCE-START 0:0:0 0:0:0", "BLOCK-ENTRY 0:0:0 1:0:1", "SCALAR 2:0:2 3:0:3 plain 61",
+    "BLOCK-ENTRY 4:1:0 5:1:1",
+]
+SECOND_LISTED = [
+    "SCALAR 6:1:2 18:1:14 single 746865207365636f6e64", "BLOCK-ENTRY 19:2:0 20:2:1", "SCALAR 21:2:2 22:2:3 plain 62",
+    "BLOCK-END 22:3:0 22:3:0", "STREAM-END 22:3:0 22:3:0",
+]
+SECONDS = 60
 
 USER = """use bogzhami::{Data, Fault, Scanner};
 
@@ -103,7 +116,26 @@ def try_checkout(crate):
     good = say(status == 0 and "test rows_are_listed ... ok" in told, f"cargo test in a checkout{said[-900:] if status else ''}")
     status, told, said = run(crate, ["cargo", "run", "-q", "--offline", "--example", "list"], SMALL, **NONE)
     is_listed = (status, told.splitlines()) == (0, LISTED)
-    return say(is_listed, f"cargo run --example list in a checkout{said[-900:] if status else ''}") and good
+    good = say(is_listed, f"cargo run --example list in a checkout{said[-900:] if status else ''}") and good
+    return try_pipe(crate) and good
+
+
+def try_pipe(crate):
+    """The example that lists a pipe: what is settled of a part of the input is listed before the rest comes."""
+    status, told, said = run(crate, ["cargo", "run", "-q", "--offline", "--example", "pieces"], SMALL, **NONE)
+    if (status, told.splitlines()) != (0, LISTED):
+        return say(False, f"cargo run --example pieces in a checkout: {told}{said[-900:]}")
+    program = os.path.join(crate, "target", "debug", "examples", "pieces")
+    with subprocess.Popen([program], stdin=subprocess.PIPE, stdout=subprocess.PIPE) as lists:
+        timer = threading.Timer(SECONDS, lists.kill)
+        timer.start()
+        lists.stdin.write(FIRST)
+        lists.stdin.flush()
+        first = [lists.stdout.readline().decode("ascii").rstrip("\n") for _ in FIRST_LISTED]
+        second = lists.communicate(SECOND)[0].decode("ascii").splitlines()
+        timer.cancel()
+    good = (first, second, lists.returncode) == (FIRST_LISTED, SECOND_LISTED, 0)
+    return say(good, f"an open pipe is listed{'' if good else f': {first}, {second}'}")
 
 
 def try_user(room, alone, library):

@@ -1,10 +1,11 @@
-//! held < INPUTS: checks the iterator, the batches and the peeks of scanner.rs against each other, for tests/ffi.py, which
-//! checks the batches by ffi/list.rs, and which texts the iterator borrows from the input. The inputs are packed as held.c
-//! says. It stops at the first thing that is wrong, and then the exit status is not 0.
+//! held < INPUTS: checks the iterator, the batches, the peeks and the inputs in pieces of scanner.rs against each other, for
+//! tests/ffi.py, which checks the batches by ffi/list.rs, and which texts the iterator borrows from the input. The inputs are
+//! packed as held.c says. It stops at the first thing that is wrong, and then the exit status is not 0.
 #[path = "../rust/src/scanner.rs"]
 mod scanner;
 
-use scanner::{Data, Encoding, Fault, Scanner, Settings, Style, Text, Token, WrongKeyLimit};
+use scanner::{Data, Encoding, Fault, Fed, Feed, PieceError, Pieces};
+use scanner::{Scanner, Settings, Style, Text, Token, WrongKeyLimit};
 use std::borrow::Cow;
 use std::io::{self, Read};
 use std::process::ExitCode;
@@ -101,6 +102,54 @@ fn one_by_one(mut scanner: Scanner) -> Vec<Item> {
     items
 }
 
+/// The items that a feed has now.
+fn items_now(feed: &mut Feed) -> Vec<Item> {
+    let mut items = Vec::new();
+    loop {
+        match feed.next_token() {
+            Ok(Fed::Token(token)) => items.push(Ok(token)),
+            Ok(Fed::More | Fed::Over) => return items,
+            Err(fault) => items.push(Err(fault)),
+        }
+    }
+}
+
+/// All items of a feed that is given pieces of some length, and is dropped when it has given so many.
+fn by_feed(input: &[u8], settings: Settings, len: usize, most: usize) -> Vec<Item> {
+    let (mut feed, mut items) = (Feed::with_settings(settings).expect("the key limit is right"), Vec::new());
+    for piece in input.chunks(len) {
+        feed.feed(piece);
+        items.extend(items_now(&mut feed));
+        if items.len() >= most {
+            return items;
+        }
+    }
+    feed.finish();
+    items.extend(items_now(&mut feed));
+    assert_eq!(feed.next_token(), Ok(Fed::Over));
+    items
+}
+
+/// A reader that gives no more at once than a pipe does that holds so much.
+struct Pipe<'a>(&'a [u8], usize);
+
+impl Read for Pipe<'_> {
+    fn read(&mut self, room: &mut [u8]) -> io::Result<usize> {
+        let len = room.len().min(self.1);
+        self.0.read(&mut room[..len])
+    }
+}
+
+/// All items of a reader.
+fn by_pieces(input: &[u8], settings: Settings, len: usize) -> Vec<Item> {
+    let pieces = Pieces::with_settings(Pipe(input, len), settings).expect("the key limit is right");
+    let fault_of = |error| match error {
+        PieceError::Fault(fault) => fault,
+        PieceError::Io(error) => panic!("{error}"),
+    };
+    pieces.map(|item| item.map_err(fault_of)).collect()
+}
+
 /// Where a borrowed text stands in the input; `None` of a copy.
 fn place_of(text: &Text, input: &[u8]) -> Option<usize> {
     match text.0 {
@@ -160,6 +209,13 @@ fn check(input: &[u8], settings: Settings) {
         assert_eq!(by_turns(open(input, settings, batch_len)), all, "by turns, {batch_len} at once");
         assert_eq!(by_peeks(open(input, settings, batch_len)), all, "by peeks, {batch_len} at once");
     }
+    for (len, batch_len) in [(1, 256), (7, 3), (4096, 256)] {
+        let settings = Settings { batch_len, ..settings };
+        assert_eq!(by_feed(input, settings, len, MOST), all, "fed by {len}");
+        assert_eq!(by_pieces(input, settings, len), all, "read by {len}");
+        let some = by_feed(input, settings, len, 3);
+        assert_eq!(some[..], all[..some.len()], "a feed that is dropped");
+    }
     open(input, settings, 256).flatten().for_each(|token| check_places(&token, input, settings));
     for count in 0..5 {
         let some: Vec<Item> = open(input, settings, 2).take(count).map(|item| item.map(Token::into_owned)).collect();
@@ -169,8 +225,9 @@ fn check(input: &[u8], settings: Settings) {
 
 fn check_settings() {
     for key_limit in [0, 65537, u32::MAX] {
-        let made = Scanner::with_settings(b"a", Settings { key_limit, ..Settings::default() });
-        assert_eq!(made.err(), Some(WrongKeyLimit(key_limit)));
+        let settings = Settings { key_limit, ..Settings::default() };
+        assert_eq!(Scanner::with_settings(b"a", settings).err(), Some(WrongKeyLimit(key_limit)));
+        assert_eq!(Feed::with_settings(settings).err(), Some(WrongKeyLimit(key_limit)));
     }
     for key_limit in [1, 65536] {
         assert!(Scanner::with_settings(b"a", Settings { key_limit, ..Settings::default() }).is_ok());

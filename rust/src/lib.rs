@@ -66,8 +66,28 @@
 //! # }
 //! ```
 //!
-//! [`Settings`] has the encoding, the key limit and the number of tokens of a batch. A scanner is not [`Send`]; tokens and
-//! faults are.
+//! [`Pieces`] has the tokens of a reader, such as a pipe, each as soon as no more bytes can change it:
+//!
+//! ```
+//! use bogzhami::{Data, PieceError, Pieces};
+//!
+//! fn main() -> Result<(), PieceError> {
+//!     let reader = &b"- Anna\n- Berta\n"[..]; // or a file, or standard input
+//!     let mut values = Vec::new();
+//!     for token in Pieces::new(reader) {
+//!         if let Data::Scalar { value, .. } = token?.data {
+//!             values.push(value.to_string());
+//!         }
+//!     }
+//!     assert_eq!(values, ["Anna", "Berta"]);
+//!     Ok(())
+//! }
+//! ```
+//!
+//! [`Feed`] gives the same, and is given the bytes as they come: it is for programs that await them.
+//!
+//! [`Settings`] has the encoding, the key limit and the number of tokens of a batch. A scanner is not [`Send`]; a feed, tokens
+//! and faults are.
 //!
 //! When the crate is built, the library is looked for in the folder that the environment variable `BOGZHAMI_LIB_DIR` names, in
 //! the `ffi/out` of a checkout of the repository, and where pkg-config says. No other crate is needed.

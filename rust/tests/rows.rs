@@ -1,26 +1,13 @@
-//! Lists the inputs of rows.txt, and compares the lines with those that stand there. A line of the file has the words of a
-//! command, an input in hexadecimal and the expected lines, with tabs between them; only the rows of `scan` are listed.
+//! Lists the inputs of rows.txt, and compares the lines with those that stand there.
 #[path = "../examples/list/listing.rs"]
 mod listing;
+mod worked;
 
 use bogzhami as scanner; // by this name listing.rs calls the crate
 use scanner::{Data, Encoding, Fault, Scanner, Settings, Text, Token};
 use std::borrow::Cow;
 use std::error::Error;
-
-const ROWS: &str = include_str!("../../tests/vectors/rows.txt");
-
-fn bytes_of(hex: &str) -> Vec<u8> {
-    let digits: Vec<u32> = hex.chars().filter_map(|digit| digit.to_digit(16)).collect();
-    digits.chunks(2).map(|pair| (pair[0] * 16 + pair[1]) as u8).collect()
-}
-
-/// The words of a scan's settings, its input and its lines; `None` for another command.
-fn row_of(line: &str) -> Option<(Vec<String>, Vec<u8>, Vec<&str>)> {
-    let parts: Vec<&str> = line.split('\t').collect();
-    let words: Vec<String> = parts[0].split(' ').map(String::from).collect();
-    (words[0] == "scan").then(|| (words[1..].to_vec(), bytes_of(parts[1]), parts[2].split(" / ").collect()))
-}
+use worked::{rows, Row};
 
 fn listed(words: &[String], input: &[u8]) -> String {
     let settings = listing::settings(words).expect("the words are right");
@@ -32,18 +19,15 @@ fn listed(words: &[String], input: &[u8]) -> String {
 
 #[test]
 fn rows_are_listed() {
-    let rows: Vec<_> = ROWS.lines().filter_map(row_of).collect();
-    for (words, input, lines) in &rows {
-        assert_eq!(listed(words, input).lines().collect::<Vec<_>>(), *lines, "{words:?} {input:02x?}");
+    for Row { words, input, lines } in rows() {
+        assert_eq!(listed(&words, &input).lines().collect::<Vec<_>>(), lines, "{words:?} {input:02x?}");
     }
-    println!("{} rows are listed", rows.len());
-    assert!(rows.len() > 80);
 }
 
 /// The items of a scanner one by one are the tokens of its batches, and then its fault, once.
 #[test]
 fn items_are_those_of_batches() {
-    for (_, input, _) in ROWS.lines().filter_map(row_of) {
+    for Row { input, .. } in rows() {
         let (mut scanner, mut wanted) = (Scanner::new(&input), Vec::new());
         while let Some(batch) = scanner.next_batch() {
             match batch {

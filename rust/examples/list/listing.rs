@@ -52,13 +52,14 @@ fn style_word(style: Style) -> &'static str {
 }
 
 /// A token's line: its type, the marks of its start and end, and what else it says.
-fn line(token: Token) -> String {
+pub fn line(token: Token) -> String {
     let words = words(token.data);
     let (name, rest) = words.split_at(words.find(' ').unwrap_or(words.len()));
     format!("{name} {} {}{rest}", mark(token.start), mark(token.end))
 }
 
-fn fault_line(fault: &Fault) -> String {
+/// The line of the fault, which is the last.
+pub fn fault_line(fault: &Fault) -> String {
     match fault {
         Fault::Memory => "FAULT memory".into(),
         Fault::Reader { problem, offset, value, .. } => format!("FAULT reader {offset} {value} {problem}"),
