@@ -6,9 +6,10 @@ lib/own_scanner.py makes in its source, one for each row of the list in python/R
 a difference that no row explains is wrong. Each example of the list differs, and the change of its row alone explains it.
 PyYAML's C loader gives what the list says that this one gives, but for the rows that are said to differ.
 
-`load`, `load_all`, `safe_load` and `safe_load_all` give what PyYAML's give, and refuse loaders that are not of this package. A
-program with `python3 -m bogzhami.pyyaml` before it, or after `replace_loaders()`, has loaders of this package by all names of
-PyYAML's, with the constructors that were added to them, and the words, the folder and the exit status as without it.
+`load`, `load_all`, `safe_load` and `safe_load_all` give what PyYAML's give, and refuse loaders that are not of this package. Out
+of files in pieces, tokens, events and errors are those of the whole; a document comes while the pipe is held open. A program
+with `python3 -m bogzhami.pyyaml` before it, or after `replace_loaders()`, has loaders of this package by all names of PyYAML's,
+with the constructors that were added to them, and the words, the folder and the exit status as without it.
 `python3 -m bogzhami.yamllint` shows control characters as an error with a place, and has no traceback for them, for bytes that
 are no text, a closed pipe, a full device, or an interrupt.
 
@@ -18,9 +19,11 @@ so does a program that uses the package rightly, and one that does not is refuse
 What needs PyYAML's C loader, yamllint or mypy is skipped, and says so, if there is none.
 """
 
+import collections
 import io
 import os
 import pathlib
+import random
 import re
 import shutil
 import signal
@@ -63,6 +66,8 @@ with open("a.yaml") as text, open("a.yaml", "rb") as file:
     every: Iterator[Any] = pyyaml.safe_load_all(text)
 other: Any = pyyaml.load("a", Loader=pyyaml.FullLoader)
 others: Iterator[Any] = pyyaml.load_all(b"a", pyyaml.SafeLoader)
+feeder = bogzhami.Feeder(bogzhami.Encoding.ANY, key_limit=9)
+fed: List[bogzhami.Token] = [*feeder.feed("a"), *feeder.feed(bytearray(b"a")), *feeder.close()]
 pyyaml.replace_loaders()
 """
 WRONG = """import bogzhami; from bogzhami import pyyaml
@@ -74,6 +79,9 @@ pyyaml.load("a")
 pyyaml.load("a", Loader=5)
 pyyaml.load_all("a", "SafeLoader")
 value: int = next(bogzhami.scan("a")).value
+bogzhami.Feeder("utf8")
+bogzhami.Feeder().feed(None)
+count: int = bogzhami.Feeder().close()
 """
 
 # A program that has loaders by all names, and says by each what is loaded; a directive tells this scanner from PyYAML's.
@@ -113,6 +121,8 @@ sys.exit(5)
 HELPER = "import os\nFOLDER = os.path.dirname(os.path.realpath(__file__))\n"
 # Rows of the list in which PyYAML's C loader differs too, by names of lib/loading.py.
 AS_IN_C = {"limit": ["limit"], "octets": ["tag that is no text"], "reader": ["late"]}
+# A text in which a break of two characters and a mark of three bytes may be cut.
+BREAKS = "\ufeffé: ü\r\n\r\nb:\r- 'c\r\n\n d'\r\n" + "- é\r\n" * 40 + "- [é\r\n"
 REFUSED = "while scanning a directive"  # the first line of an error
 
 # A program that calls the function itself, after constructors were added.
@@ -210,13 +220,17 @@ def documents(call, *words):
         return type(error).__name__
 
 
-def told(call, *words):
-    """What an exception of a call says."""
+def told_of(kind, call, *words):
+    """What an exception of a call says, if it is of a kind."""
     try:
         call(*words)
-    except (TypeError, ValueError) as reason:
+    except kind as reason:
         return str(reason)
     return ""
+
+
+def told(call, *words):
+    return told_of((TypeError, ValueError), call, *words)
 
 
 def limited(limit):
@@ -251,6 +265,74 @@ def try_loading():
     found = f"{len(DOCUMENTS)} texts by {len(pairs)} calls, {shown(wrong)}; {checks.count(False)} of {len(checks)} other checks wrong"
     print(f"loaders: {found}")
     return not wrong and all(checks)
+
+
+def listed_late(call, given, loader):
+    """As `loading.listed`, with a look at the marks only after all was given."""
+    found, last = [], []
+    try:
+        for one in call(given, Loader=loader):
+            found.append(one)
+    except (yaml.YAMLError, ValueError) as error:
+        last.append(loading.error_parts(error))
+    return [*map(loading.parts, found), *last]
+
+
+def try_pieces(every):
+    """Files that give pieces: tokens, events and errors beside those of the whole, also if marks are looked at later."""
+    chance, wrong, lasts = random.Random(3), [], collections.Counter()
+    every = [*every, *[given for given in (BREAKS, BREAKS.encode(), BREAKS[1:].encode("utf-16")) for _ in range(10)]]
+    for number, given in enumerate(every):
+        call, loader = ((yaml.scan, pyyaml.BaseLoader), (yaml.parse, pyyaml.SafeLoader))[number % 2]
+        wanted = loading.listed(call, given, loader)
+        lasts[wanted[-1][0]] += 1
+        for size, listed in ((0, loading.listed), (7, listed_late), (4096, loading.listed)):
+            file = feeding.Pieces(feeding.cut(given, size, chance) or [given])
+            wrong += [(given, size)] * (listed(call, file, loader) != wanted)
+    found = ", ".join(f"{count} {name}" for name, count in sorted(lasts.items()))
+    print(f"loaders: {len(every)} inputs out of files in pieces, which end with {found}: {shown(wrong)}")
+    return not wrong and all(lasts[name] > 20 for name in ("StreamEndToken", "StreamEndEvent", "ScannerError", "ReaderError"))
+
+
+def asked_twice(loader):
+    """What a loader says each time that it is asked for tokens, up to the exception of a read, and again."""
+    found = []
+    for _ in range(2):
+        try:
+            while True:
+                found.append(type(loader.get_token()).__name__)
+        except OSError as reason:
+            found.append(str(reason))
+    return found
+
+
+def named(pieces):
+    """A file that gives pieces, and has a name."""
+    file = feeding.Pieces(pieces)
+    file.name = "é.yaml"
+    return file
+
+
+def try_pipes():
+    """A pipe that is held open, a read that fails, and errors with the name of the file."""
+    first, rest = (feeding.DOCUMENTS + feeding.MORE).encode(), b"...\n--- x\n...\n"
+    before, after = feeding.held_open(feeding.opened(pyyaml.safe_load_all, mode="rb"), 1, first, rest)
+    text, failure = (feeding.DOCUMENTS + feeding.MORE).encode(), OSError("no more")
+    documents = pyyaml.safe_load_all(feeding.Pieces([text, failure]))
+    failing = next(documents), told_of(OSError, next, documents)
+    twice = asked_twice(pyyaml.SafeLoader(feeding.Pieces([b"- a\n- " + b"b" * 9, failure, OSError("again")])))
+    names = "StreamStartToken BlockSequenceStartToken BlockEntryToken ScalarToken BlockEntryToken".split()
+    errors = [told_of(yaml.YAMLError, call, named([b"- [a]\n", b"b: c\n"])) for call in (pyyaml.safe_load, yaml.safe_load)]
+    words = "NoneType is given: str or bytes out of a file is wanted"
+    checks = [
+        before == [["é", ["b"]]] and after == ["c\nd\nééééééé\n", "x"],
+        failing == (["é", ["b"]], "no more"),
+        twice == [*names, "no more", "again"],
+        errors[0] == errors[1] and 'in "é.yaml", line 2, column 1' in errors[0],
+        told_of(TypeError, pyyaml.safe_load, feeding.Pieces([b"a", None])) == words,
+    ]
+    print(f"loaders: pipes and reads that fail, {checks.count(False)} of {len(checks)} checks wrong")
+    return all(checks)
 
 
 # PROGRAMS THAT CAN NOT BE CHANGED
@@ -412,7 +494,7 @@ def try_types(room):
 
 
 def main():
-    global loading, own_scanner, pyyaml, yaml
+    global feeding, loading, own_scanner, pyyaml, yaml
     signal.signal(signal.SIGINT, signal.default_int_handler)
     if shutil.which("cc") is None:
         print("loaders: skipped: no C compiler")
@@ -424,12 +506,15 @@ def main():
         good = [try_types(room), try_yamllint(room)]
         if can(sys.executable, C_LOADER):
             os.environ["BOGZHAMI_LIBRARY"] = LIBRARY
+            import feeding
             import loading
             import own_scanner
             import yaml
             from bogzhami import pyyaml
 
-            good += [try_rows(), try_loading(), try_replaced(room), try_words(room), try_own(list(every_input()))]
+            every = list(every_input())
+            good += [try_rows(), try_loading(), try_pieces(every[::60]), try_pipes()]
+            good += [try_replaced(room), try_words(room), try_own(every)]
         else:
             print("loaders: PyYAML skipped: there is none with its C loader")
     return 0 if all(good) else 1

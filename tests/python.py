@@ -7,6 +7,10 @@ that is refused, threads, and the places where the library is looked for are tri
 print what it says. So are the exit statuses of `python3 -m bogzhami`: wrong words, reads and writes that fail, a closed pipe,
 interrupts, and no library, where help and version are there all the same.
 
+The worked rows, as bytes and `str`, in UTF-8 and UTF-16, are also cut into pieces, for a Feeder and for files that are read in
+pieces: tokens and faults are those of the whole. Tokens come before the rest is read, before a read that fails, and out of a pipe
+that is held open; a literal of 20 megabytes in pieces takes time in proportion.
+
 A copy of the checkout, in a folder with a blank in its name, is used with no variable, and by pip in a new virtual environment
 of each Python that makes one: installed, installed as it stands, and as a wheel, with nothing fetched. Of an installed package
 the version, the types and the library are looked at, and that all goes when it is removed; of a wheel, its list of files. The
@@ -407,10 +411,10 @@ def try_settings():
         "text file": ["é"],
     }
     opened = io.BytesIO(b"a: 1")
-    bogzhami.scan(opened)
+    list(bogzhami.scan(opened))
     refused = [
         not opened.closed and not opened.read(),
-        refuses(OSError, bogzhami.scan, Failing()),
+        refuses(OSError, list, bogzhami.scan(Failing())),
         refuses(bogzhami.Fault, list, bogzhami.scan("'abc': 1", key_limit=4)),
     ]
     wrong = {name: value for name, value in values.items() if value != wanted[name]}
@@ -940,7 +944,7 @@ def try_pyyaml():
 
 
 def main():
-    global bogzhami, held, main_module
+    global bogzhami, feeding, held, main_module
     # A program that a script starts in the background ignores interrupts, and so would those that are started here.
     signal.signal(signal.SIGINT, signal.default_int_handler)
     if shutil.which("cc") is None:
@@ -952,6 +956,7 @@ def main():
     os.environ["BOGZHAMI_LIBRARY"] = LIBRARY
     import bogzhami
     import bogzhami.__main__ as main_module
+    import feeding
     from bogzhami import held
 
     with tempfile.TemporaryDirectory() as room:
@@ -959,6 +964,7 @@ def main():
             try_listings(sys.argv[1] if len(sys.argv) > 1 else None),
             try_statuses(sys.argv[1] if len(sys.argv) > 1 else None),
             try_faults(),
+            feeding.try_feeding(FAULTS),
             try_settings(),
             try_paths(make_room(room, "paths")),
             try_ends(),

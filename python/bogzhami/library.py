@@ -13,7 +13,7 @@ from typing import Any, Iterator, List, Union
 NAMES = ("libbogzhami.so.1", "libbogzhami.so")
 
 # What a call returns.
-DONE, FAULT, WRONG, NO_MEMORY, OVER, NO_ROOM, NOT_LIVE = range(7)
+DONE, FAULT, WRONG, NO_MEMORY, OVER, NO_ROOM, NOT_LIVE, MORE, WHOLE = range(9)
 
 # The kinds of faults.
 MEMORY_ERROR, READER_ERROR, SCANNER_ERROR = 1, 2, 3
@@ -114,10 +114,13 @@ def declared(library: ctypes.CDLL) -> ctypes.CDLL:
     """The library, with the types of what its calls take and return."""
     handle, size, number = ctypes.POINTER(Handle), ctypes.c_size_t, ctypes.c_uint32
     bytes_of = [ctypes.c_char_p, size]
-    rooms = [ctypes.c_void_p, size, ctypes.c_void_p, size]
+    rooms = [ctypes.c_void_p, size, ctypes.c_void_p, size, ctypes.POINTER(Answer)]
+    window = [ctypes.c_uint64, ctypes.c_void_p, size, ctypes.c_bool]
     for name, taken in {
         "open": [handle, *bytes_of, number, number],
-        "next": [handle, *bytes_of, *rooms, ctypes.POINTER(Answer)],
+        "next": [handle, *bytes_of, *rooms],
+        "open_pieces": [handle, number, number],
+        "next_piece": [handle, *window, *rooms, ctypes.POINTER(ctypes.c_uint64)],
         "encoding": [handle],
         "close": [handle],
     }.items():

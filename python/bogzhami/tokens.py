@@ -129,7 +129,7 @@ class Fault(ValueError):
         return words if self.offset is None else f"{words} (byte {self.offset + 1} of the input)"
 
 
-def fault_of(refusal: Refusal, data: bytes, setting: int) -> Fault:
+def fault_of(refusal: Refusal, data: Union[bytes, bytearray], setting: int) -> Fault:
     """The fault of an input. The line and column of a reader's fault are counted from what is in front of it."""
     if refusal.is_reader:
         line, column = place_in_front(data, setting, refusal.offset)

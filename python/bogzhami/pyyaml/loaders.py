@@ -9,7 +9,8 @@ from yaml.resolver import BaseResolver, Resolver
 from yaml.scanner import Scanner, ScannerError
 from yaml.tokens import ScalarToken, Token
 
-from ..held import Batch, Content, Held, Readable, Refusal, bytes_of, read_all
+from ..files import Readable, Reading
+from ..held import Batch, Content, Held, Refusal, bytes_of
 from ..text import CODECS
 from .marks import Source
 from .shortcuts import QuickComposer, QuickParser
@@ -23,23 +24,26 @@ Stream = Union[Content, Readable]
 class Scanning:
     """What PyYAML's `Reader` and `Scanner` are for its parser: the tokens of a stream, one after the other.
 
-    A stream is `str`, bytes, or a file, which is read to its end at once. It is scanned as tokens are asked for, 256 at a time.
-    An error is raised in place of the token that can not be read, each time that it is asked for.
+    A stream is `str`, bytes, or a file. It is scanned as tokens are asked for, 256 at a time, and a file is read as they are: from
+    a pipe a token comes as soon as no more of it can change that. An error is raised in place of the token that can not be
+    read, each time that it is asked for. What a read raises comes after the tokens before it.
     """
 
     # how many bytes a simple key may have, 1 to 65536
     key_limit = 1024
 
     def __init__(self, stream: Stream) -> None:
-        is_shown, data = not hasattr(stream, "read"), read_all(stream) if hasattr(stream, "read") else stream
-        self.name = "<unicode string>" if isinstance(stream, str) else "<byte string>"
-        if not is_shown:
+        self._held: Union[Held, Reading, None]
+        if hasattr(stream, "read"):
             self.name = getattr(stream, "name", "<file>")
-        self._is_text = isinstance(data, str)
-        given = bytes_of(data)
-        self._source = Source(self.name, given, is_shown)
-        self._maker = Maker(self._source, self._is_text)
-        self._held: Optional[Held] = Held(given, ANY, self.key_limit)
+            self._held = reading = Reading(stream, ANY, self.key_limit)
+            self._source = Source(self.name, reading.data, False)
+        else:
+            self.name = "<unicode string>" if isinstance(stream, str) else "<byte string>"
+            self._held = held = Held(bytes_of(stream), ANY, self.key_limit)
+            self._source = Source(self.name, held.data, True)
+            self._source.see(isinstance(stream, str), True)
+        self._maker = Maker(self._source)
         self._waiting: List[Token] = []  # the tokens of a batch that were not taken, the next one last
         self._error: Optional[YAMLError] = None
 
@@ -78,7 +82,7 @@ class Scanning:
 
     def _fill(self) -> bool:
         """Takes the next batch if all tokens were taken. Returns whether there are any, or raises the error that comes next."""
-        given = None if self._held is None or self._error is not None else self._held.next()
+        given = None if self._error is not None else self._next()
         if isinstance(given, Batch):
             try:
                 self._maker.tokens_of(given, self._waiting)
@@ -91,6 +95,16 @@ class Scanning:
             raise self._error.with_traceback(None)
         return bool(self._waiting)
 
+    def _next(self) -> Union[Batch, Refusal, None]:
+        """What the scanner gives next, after the source has seen what was read for it."""
+        held = self._held
+        if held is None:
+            return None
+        given = held.next()
+        if isinstance(held, Reading):
+            self._source.see(held.is_text is True, held.is_whole)
+        return given
+
     def _error_of(self, refusal: Refusal) -> YAMLError:
         """The fault as PyYAML's exception."""
         source = self._source
@@ -100,7 +114,7 @@ class Scanning:
         position, character, encoding = refusal.offset, refusal.value, CODECS[source.encoding]
         if character < 0:  # the input ends too early, or no character begins so
             character = source.data[position]
-        if self._is_text:
+        if source.is_text:
             position, encoding = len(source.data[:position].decode("utf-8", "surrogatepass")), "unicode"
         return ReaderError(self.name, position, character, encoding, refusal.problem)
 

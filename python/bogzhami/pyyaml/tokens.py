@@ -35,11 +35,10 @@ ENCODINGS = (None, "utf-8", "utf-16-le", "utf-16-be")
 class Maker:
     """Makes the tokens of a source, batch after batch."""
 
-    __slots__ = ("source", "is_text", "last_mark")
+    __slots__ = ("source", "last_mark")
 
-    def __init__(self, source: Source, is_text: bool) -> None:
-        """`is_text` says that the source was given as `str`, so that its stream start has no encoding."""
-        self.source, self.is_text = source, is_text
+    def __init__(self, source: Source) -> None:
+        self.source = source
         self.last_mark = Mark(source, 0, 0, 0)
 
     def tokens_of(self, batch: Batch, made: List[tokens.Token]) -> None:
@@ -85,7 +84,7 @@ class Maker:
     def _other(self, batch: Batch, record: int, number: int, detail: int, start: Mark, end: Mark) -> tokens.Token:
         """A token that is neither a scalar nor one that has nothing but marks."""
         if number == STREAM_START:
-            return tokens.StreamStartToken(start, end, None if self.is_text else ENCODINGS[detail])
+            return tokens.StreamStartToken(start, end, None if self.source.is_text else ENCODINGS[detail])
         if number == VERSION_DIRECTIVE:
             return tokens.DirectiveToken("YAML", batch.version_of(record), start, end)
         first, second = batch.texts_of(record)
