@@ -16,7 +16,7 @@ says so. The source package has the files that git knows.
 
 The Debian packages are installed by dpkg in a new root, which debootstrap makes from the machine's own package source, and in
 which apt installs compilers. There the programs, programs in C and C++ that are compiled by what pkg-config and CMake say, the
-crate's example, and the Python module if there is one, list the worked rows of vectors/rows.txt as yamltok does. Python knows
+crate's examples, and the Python module if there is one, list the worked rows of vectors/rows.txt as yamltok does. Python knows
 the version of the module, and pip installs it out of the tarball's folder. The crate's own tests run by `cargo test --offline`,
 and so does a crate that names it. PyYAML's CSafeLoader runs over the packaged libyaml. The lines of README.md that show what
 deep nesting costs are given, with a text that is less deep: over the packaged libyaml it takes less than two seconds, and over
@@ -70,9 +70,10 @@ HAS_MODULE = os.path.exists(os.path.join(TOP, "python", "bogzhami", "__init__.py
 
 # What has to be in the tarball; what needs a tool that may be missing is added by `wanted_files`.
 FILES = """BUILT CHANGELOG.md LICENSE PROMISES.md README.md VERSION bin/yamltok bin/bogzhami-lint bin/bogzhami-json examples/list.c examples/list.cc
-examples/mistakes.yaml include/bogzhami.h lib/libbogzhami.a lib/libbogzhami.so lib/libbogzhami.so.MAJOR lib/libbogzhami.so.VERSION
+examples/listing.h examples/listing.hh examples/pieces.c examples/pieces.cc examples/mistakes.yaml include/bogzhami.h lib/libbogzhami.a lib/libbogzhami.so lib/libbogzhami.so.MAJOR lib/libbogzhami.so.VERSION
 lib/pkgconfig/bogzhami.pc lib/cmake/bogzhami/bogzhami-config.cmake lib/cmake/bogzhami/bogzhami-config-version.cmake rust/Cargo.toml rust/LICENSE rust/README.md rust/build.rs rust/src/lib.rs rust/src/scanner.rs
-rust/examples/list/main.rs rust/examples/list/listing.rs rust/examples/list/command.rs rust/tests/rows.rs rust/tests/rows.txt share/man/man1/yamltok.1.gz
+rust/examples/list/main.rs rust/examples/list/listing.rs rust/examples/list/command.rs rust/examples/pieces.rs rust/tests/rows.rs rust/tests/rows.txt
+rust/tests/pieces.rs rust/tests/refused.rs rust/tests/worked/mod.rs share/man/man1/yamltok.1.gz
 share/man/man1/bogzhami-json.1.gz share/man/man1/bogzhami-lint.1.gz share/man/man1/bogzhami-highlight.1.gz share/man/man3/bogzhami.3.gz
 share/bash-completion/completions/bogzhami-json share/zsh/site-functions/_yamltok share/fish/vendor_completions.d/bogzhami-json.fish"""
 MODULE = """LICENSE README.md pyproject.toml packing/backend.py packing/METADATA bogzhami/__init__.py bogzhami/__init__.pyi
@@ -460,7 +461,8 @@ def try_cmake(place, example, *words):
     folder = f"{place.folder}/user of cmake"
     shutil.rmtree(place.outer(folder), ignore_errors=True)
     os.makedirs(place.outer(folder))
-    shutil.copy(place.outer(example), place.outer(folder))
+    for path in (example, os.path.join(os.path.dirname(example), "listing.h")):
+        shutil.copy(place.outer(path), place.outer(folder))
     with open(place.outer(folder) + "/CMakeLists.txt", "w", encoding="ascii") as out:
         out.write(CMAKE.replace("MAJOR", VERSION.split(".")[0]))
     good = try_command(place, "CMake finds the library", ["cmake", "-S", ".", "-B", "made", *words], folder=folder)
@@ -469,7 +471,7 @@ def try_cmake(place, example, *words):
 
 
 def try_crate(place, crate, **how):
-    """The crate's own tests, and its example; the crate is copied first."""
+    """The crate's own tests, and its examples; the crate is copied first."""
     folder = f"{place.folder}/crate"
     shutil.rmtree(place.outer(folder), ignore_errors=True)
     shutil.copytree(place.outer(crate), place.outer(folder))
@@ -478,9 +480,10 @@ def try_crate(place, crate, **how):
     passed = sum(int(count) for count in re.findall(rb"(\d+) passed; 0 failed", done.stdout))
     told = "" if done.returncode == 0 else (done.stdout + done.stderr).decode("utf-8", "replace")[-1500:]
     good = say(done.returncode == 0 and passed >= 9, f"{passed} tests of the crate by cargo test --offline, {version}{told}")
-    good = good and try_command(place, "the crate's example is built", ["cargo", "build", "--offline", "--example", "list"],
+    good = good and try_command(place, "the crate's examples are built", ["cargo", "build", "--offline", "--examples"],
                                 folder=folder, **how)
-    return good and try_rows(place, "the crate's example", [f"{folder}/target/debug/examples/list"])
+    built = f"{folder}/target/debug/examples"
+    return good and all([try_rows(place, f"the crate's example {name}", [f"{built}/{name}"]) for name in ("list", "pieces")])
 
 
 # What is in Rust without a crate, and the folders that it is made of.
@@ -598,7 +601,9 @@ def try_debian(place, folder):
         say(said_by(place, ["pkg-config", "--modversion", "bogzhami"]) == FULL, "pkg-config says the version"),
         try_tools(place, "of the Debian packages", "/usr/bin"),
         try_c(place, "list.c", "cc", "-std=c99"),
+        try_c(place, "pieces.c", "cc", "-std=c99"),
         try_c(place, "list.cc", "c++", "-std=c++17"),
+        try_c(place, "pieces.cc", "c++", "-std=c++17"),
         try_cmake(place, "/usr/share/doc/libbogzhami-dev/examples/list.c"),
         try_crate(place, "/usr/share/bogzhami/rust"),
         try_dependent(place, "/usr/share/bogzhami/rust"),
@@ -660,7 +665,7 @@ def try_tarball(place, packed):
         good.append(skip("C and C++ from the tarball: no compiler"))
     else:
         good.append(try_block(place, "C and C++ with the static library", static, folder))
-        good += [try_rows(place, f"{name} of the tarball", [f"{folder}/{name}"]) for name in ("list", "list-cc")]
+        good += [try_rows(place, f"{name} of the tarball", [f"{folder}/{name}"]) for name in ("list", "list-cc", "pieces", "pieces-cc")]
         if place.has("pkg-config"):
             good.append(try_block(place, "C by pkg-config", shared, folder))
             good.append(try_rows(place, "list of the tarball, over the shared library", [f"{folder}/list"]))
