@@ -2,7 +2,8 @@
  *
  * c times FILE LIBYAML OURS: does so nine times, in turn with each library, and says how long the best and the median
  * took, in nanoseconds. The last two are shared libraries that have libyaml's functions. A line for each measure, with
- * tabs in it: what, by which library, how many tokens or events, best, median. Compiled with WITH_LIBFYAML, and with
+ * tabs in it: what, by which library, how many tokens or events, best, median. In pieces, each read gives so many bytes:
+ * to bogzhami_next_piece by a copy that grows, to libyaml by its read handler. Compiled with WITH_LIBFYAML, and with
  * libfyaml, it measures that too. Memory is taken and given back within each time.
  *
  * c texts TIMES LIBYAML FILE..: nine times, in turn with libyaml, opens, scans and closes each file so many times, one
@@ -33,6 +34,7 @@ static size_t size;
 struct library {
     int (*initialize)(yaml_parser_t *);
     void (*set_input)(yaml_parser_t *, const unsigned char *, size_t);
+    void (*set_handler)(yaml_parser_t *, yaml_read_handler_t *, void *);
     int (*scan)(yaml_parser_t *, yaml_token_t *);
     void (*delete_token)(yaml_token_t *);
     int (*parse)(yaml_parser_t *, yaml_event_t *);
@@ -52,21 +54,43 @@ static int open_library(struct library *made, const char *path) {
     void *library = dlopen(path, RTLD_NOW | RTLD_LOCAL);
     return library && find(library, "yaml_parser_initialize", &made->initialize) &&
            find(library, "yaml_parser_set_input_string", &made->set_input) &&
+           find(library, "yaml_parser_set_input", &made->set_handler) &&
            find(library, "yaml_parser_scan", &made->scan) && find(library, "yaml_token_delete", &made->delete_token) &&
            find(library, "yaml_parser_parse", &made->parse) &&
            find(library, "yaml_event_delete", &made->delete_event) &&
            find(library, "yaml_parser_delete", &made->delete_parser);
 }
 
-/* Each of these returns how many tokens or events there are, or 0 if the input has a fault. */
-static long scan_by(const struct library *library) {
+/* How much of the input was read, and how many bytes a read gives. */
+struct reading {
+    size_t at, piece;
+};
+
+/* Reads a piece for libyaml, which has room for so many bytes. */
+static int read_piece(void *data, unsigned char *room, size_t most, size_t *count) {
+    struct reading *reading = data;
+    size_t left = size - reading->at;
+    *count = left < reading->piece ? left : reading->piece;
+    if (*count > most)
+        *count = most;
+    memcpy(room, bytes + reading->at, *count);
+    reading->at += *count;
+    return 1;
+}
+
+/* Each of these returns how many tokens or events there are, or 0 if the input has a fault. Without a reading the parser
+ * has the input at once. */
+static long scan_from(const struct library *library, struct reading *reading) {
     yaml_parser_t parser;
     yaml_token_t token;
     long count = 0;
     int type = YAML_NO_TOKEN;
     if (!library->initialize(&parser))
         return 0;
-    library->set_input(&parser, bytes, size);
+    if (reading)
+        library->set_handler(&parser, read_piece, reading);
+    else
+        library->set_input(&parser, bytes, size);
     while (type != YAML_STREAM_END_TOKEN && library->scan(&parser, &token)) {
         type = token.type;
         library->delete_token(&token);
@@ -74,6 +98,13 @@ static long scan_by(const struct library *library) {
     }
     library->delete_parser(&parser);
     return type == YAML_STREAM_END_TOKEN ? count : 0;
+}
+
+static long scan_by(const struct library *library) { return scan_from(library, NULL); }
+
+static long scan_in_pieces(const struct library *library, size_t piece) {
+    struct reading reading = {0, piece};
+    return scan_from(library, &reading);
 }
 
 static long parse_by(const struct library *library) {
@@ -142,6 +173,70 @@ static long next_by(size_t most) {
     return count;
 }
 
+/* What came of the input, as a caller has it that reads: a copy that grows. */
+struct window {
+    unsigned char *bytes;
+    size_t room;
+    struct reading reading;
+};
+
+/* Reads a piece behind what came. Returns whether there is memory for it. */
+static int read_on(struct window *window) {
+    size_t left = size - window->reading.at, count;
+    size_t more = left < window->reading.piece ? left : window->reading.piece;
+    if (window->room - window->reading.at < more) {
+        size_t room = 2 * window->room + more;
+        unsigned char *grown = realloc(window->bytes, room);
+        if (!grown)
+            return 0;
+        window->bytes = grown;
+        window->room = room;
+    }
+    return read_piece(&window->reading, window->bytes + window->reading.at, more, &count);
+}
+
+/* Reads pieces until more than so many bytes came, or all. Returns whether there is memory for them. */
+static int read_past(struct window *window, uint64_t wanted) {
+    do {
+        if (!read_on(window))
+            return 0;
+    } while (window->reading.at < size && window->reading.at <= wanted);
+    return 1;
+}
+
+/* Scans what comes in pieces, by a call for each. Once 1 MB waits behind the last token, it has to grow by a quarter. */
+static long pieces_in(struct rooms *rooms, struct window *window) {
+    struct bogzhami_handle handle = BOGZHAMI_CLOSED;
+    struct bogzhami_answer answer = {0};
+    uint64_t needed = 0, given = 0, wanted = 0;
+    uint32_t status = bogzhami_open_pieces(&handle, BOGZHAMI_ANY_ENCODING, 1024);
+    long count = 0;
+    while (status == BOGZHAMI_DONE || status == BOGZHAMI_MORE) {
+        if (status == BOGZHAMI_MORE && !read_past(window, wanted))
+            break;
+        status = bogzhami_next_piece(&handle, 0, window->bytes, window->reading.at, window->reading.at == size,
+                                     rooms->tokens, 256, rooms->texts, rooms->text_room, &answer, &needed);
+        count += (long)answer.token_count;
+        if (answer.token_count)
+            given = rooms->tokens[answer.token_count - 1].end_mark.index;
+        uint64_t waiting = window->reading.at - given;
+        wanted = window->reading.at + (waiting < 1 << 20 ? 0 : waiting / 4);
+        if (status == BOGZHAMI_NO_ROOM && make_text_room(rooms, answer.text_len))
+            status = BOGZHAMI_DONE;
+    }
+    bogzhami_close(&handle);
+    return status == BOGZHAMI_OVER ? count : 0;
+}
+
+static long pieces_by(size_t piece) {
+    struct rooms rooms;
+    struct window window = {NULL, 0, {0, piece}};
+    long count = make_rooms(&rooms, 256) && read_on(&window) ? pieces_in(&rooms, &window) : 0;
+    free_rooms(&rooms);
+    free(window.bytes);
+    return count;
+}
+
 static struct rooms kept; /* that stay for all texts */
 
 static long kept_256(void) { return next_in(&kept, 256); }
@@ -175,6 +270,12 @@ static long next_16(void) { return next_by(16); }
 static long next_1(void) { return next_by(1); }
 static long scan_libyaml(void) { return scan_by(&libyaml); }
 static long scan_ours(void) { return scan_by(&ours); }
+static long pieces_of_4096(void) { return pieces_by(4096); }
+static long pieces_of_65536(void) { return pieces_by(65536); }
+static long ours_of_4096(void) { return scan_in_pieces(&ours, 4096); }
+static long ours_of_65536(void) { return scan_in_pieces(&ours, 65536); }
+static long libyaml_of_4096(void) { return scan_in_pieces(&libyaml, 4096); }
+static long libyaml_of_65536(void) { return scan_in_pieces(&libyaml, 65536); }
 static long parse_libyaml(void) { return parse_by(&libyaml); }
 static long parse_ours(void) { return parse_by(&ours); }
 
@@ -210,6 +311,12 @@ static struct measure measures[] = {
 #ifdef WITH_LIBFYAML
     {.what = "tokens", .by = "libfyaml", .take = scan_libfyaml},
 #endif
+    {.what = "tokens, pieces of 4,096", .by = "bogzhami_next_piece", .take = pieces_of_4096},
+    {.what = "tokens, pieces of 4,096", .by = "uses/libyaml", .take = ours_of_4096},
+    {.what = "tokens, pieces of 4,096", .by = "libyaml", .take = libyaml_of_4096},
+    {.what = "tokens, pieces of 65,536", .by = "bogzhami_next_piece", .take = pieces_of_65536},
+    {.what = "tokens, pieces of 65,536", .by = "uses/libyaml", .take = ours_of_65536},
+    {.what = "tokens, pieces of 65,536", .by = "libyaml", .take = libyaml_of_65536},
     {.what = "events", .by = "uses/libyaml", .take = parse_ours},
     {.what = "events", .by = "libyaml", .take = parse_libyaml},
 };

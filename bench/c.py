@@ -3,7 +3,7 @@
 
 c.py needs the libraries that ffi/build and uses/libyaml/build make, a C compiler and libyaml's header and library
 (Debian: libyaml-dev); libfyaml is measured if its header is there (libfyaml-dev). All take the same bytes, from memory,
-in turn, in one run on one core, and nothing is listed. Then it tells how much memory uses/libyaml and libyaml take
+at once or in pieces of 4,096 and 65,536 bytes, in turn, in one run on one core, and nothing is listed. Then it tells how much memory uses/libyaml and libyaml take
 beside the input. c.py FILE.. measures those files in place of its own two texts. At the end, for manifests, JSON and the
 shortest texts, it tells the nanoseconds that a token takes, and that a text takes from its opening to its closing, with
 rooms that are made once.
