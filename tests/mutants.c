@@ -6,8 +6,8 @@
  *
  * Of each input bogzhami_scan_all gives all tokens, with the key limit of libyaml and with the given one. With that of libyaml
  * they are compared with libyaml's tokens: types, marks, texts, numbers, and the fault with its words. With both limits the
- * tokens are then taken in each way by bogzhami_next and bogzhami_peek. What each of these calls has to return is computed from
- * all tokens, by the words of bogzhami.h.
+ * tokens are then taken in each way by bogzhami_next and bogzhami_peek, and by bogzhami_next_piece in pieces of one byte and of
+ * some more. What each of these calls has to return is computed from all tokens, by the words of bogzhami.h.
  *
  * What is wrong is printed, with the input in hexadecimal. The last line has five counts: inputs, those with a fault, those that
  * are no text, those of which libyaml may give other tokens, and those with which something is wrong. */
@@ -20,7 +20,7 @@
 #include <yaml.h>
 
 enum { MOST_INPUT = 16000, MOST_TOKENS = 4 * MOST_INPUT, MOST_TEXTS = 4 * MOST_INPUT };
-enum { USUAL_LIMIT = 1024, MOST_BATCH = 256, FILL = 0xA5, WAYS = 18 };
+enum { USUAL_LIMIT = 1024, MOST_BATCH = 256, FILL = 0xA5, WAYS = 18, MOST_PIECE = 61 };
 
 _Static_assert(YAML_STREAM_START_TOKEN == (int)BOGZHAMI_STREAM_START_TOKEN, "both number the tokens alike");
 _Static_assert(YAML_SCALAR_TOKEN == (int)BOGZHAMI_SCALAR_TOKEN, "both number the tokens alike");
@@ -531,6 +531,64 @@ static void take_all(const struct input *i, uint32_t limit, const struct given *
         tell(way->name, "bogzhami_close fails");
 }
 
+/* Whether a call with pieces gave that token of all tokens: the same but for its place in the input. */
+static bool is_same_of_pieces(const struct given *whole, uint64_t number, const struct bogzhami_token *found) {
+    struct bogzhami_token a = whole->tokens[number], b = *found;
+    const uint8_t *wanted_text = whole->texts + a.text_at, *found_text = batch_texts + b.text_at;
+    a.text_at = b.text_at = 0;
+    a.input_at = BOGZHAMI_NOWHERE;
+    return !memcmp(&a, &b, sizeof a) && !memcmp(wanted_text, found_text, text_len(&a));
+}
+
+/* Compares the tokens of a call with pieces. Returns how many were taken then. */
+static uint64_t compare_piece(const char *way, const struct given *whole, uint64_t taken, const struct given *found) {
+    uint64_t count = found->answer.token_count;
+    for (uint64_t n = 0; n < count && !is_wrong; n++) {
+        bool is_there = taken + n < whole->answer.token_count;
+        if (!is_there || !is_same_of_pieces(whole, taken + n, found->tokens + n))
+            tell_token(way, taken, n, &(struct given){.answer.token_count = is_there ? n + 1 : 0, .tokens = whole->tokens + taken,
+                                                      .texts = whole->texts}, found);
+    }
+    return taken + count;
+}
+
+/* Compares how an input in pieces ends: after all tokens, with the fault, if there is one. */
+static void compare_last_piece(const char *way, const struct given *whole, uint64_t taken, const struct given *found) {
+    struct given wanted = *whole;
+    wanted.status = whole->status == BOGZHAMI_FAULT ? BOGZHAMI_FAULT : BOGZHAMI_OVER;
+    wanted.answer.token_count = found->answer.token_count;
+    wanted.answer.text_len = found->answer.text_len;
+    if (taken != whole->answer.token_count || !is_same_end(&wanted, found))
+        tell_end(way, taken, &wanted, found);
+}
+
+/* Takes all tokens of an input that comes in pieces of so many bytes, with room for all that a call may give. */
+static void take_pieces(const struct input *i, uint32_t limit, const struct given *whole, size_t piece) {
+    struct bogzhami_handle handle = BOGZHAMI_CLOSED;
+    struct given found = {BOGZHAMI_MORE, {0}, batch, batch_texts, batch_texts, 0};
+    uint64_t taken = 0, came = 0, needed;
+    char way[60];
+    snprintf(way, sizeof way, "bogzhami_next_piece, pieces of %zu", piece);
+    if (bogzhami_open_pieces(&handle, BOGZHAMI_ANY_ENCODING, limit) != BOGZHAMI_DONE)
+        tell(way, "bogzhami_open_pieces fails");
+    while (!is_wrong && (found.status == BOGZHAMI_DONE || found.status == BOGZHAMI_MORE || found.status == BOGZHAMI_WHOLE)) {
+        if (found.status != BOGZHAMI_DONE)
+            came += piece;
+        bool is_last = came >= i->len;
+        if (is_last)
+            came = i->len;
+        memset(&found.answer, FILL, sizeof found.answer);
+        uint32_t status = bogzhami_next_piece(&handle, 0, i->bytes, came, is_last, batch, MOST_BATCH, batch_texts, MOST_TEXTS,
+                                              &found.answer, &needed);
+        found = given_in_batch(status, found.answer);
+        taken = compare_piece(way, whole, taken, &found);
+    }
+    if (!is_wrong)
+        compare_last_piece(way, whole, taken, &found);
+    if (bogzhami_close(&handle) != BOGZHAMI_DONE)
+        tell(way, "bogzhami_close fails");
+}
+
 static void make_ways(void) {
     const size_t batches[] = {1, 2, 3, 5, 7, 16, 40, MOST_BATCH, 1};
     for (size_t n = 0; n < WAYS; n++) {
@@ -568,6 +626,10 @@ static void try_input(const struct input *i, uint32_t limit) {
     }
     for (size_t n = 0; n < WAYS && !is_wrong; n++)
         take_all(i, limit, &whole, ways + n);
+    if (!is_wrong)
+        take_pieces(i, limit, &whole, 1);
+    if (!is_wrong)
+        take_pieces(i, limit, &whole, 2 + i->len % MOST_PIECE);
 }
 
 int main(void) {

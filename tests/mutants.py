@@ -10,7 +10,8 @@ With --files the texts are these files, and all files in these folders. Without 
 mutants.c scans each mutant with libyaml and with the library. All tokens up to the stream end or the fault are the same: types,
 marks, texts, styles, encodings and versions. So is the fault, in words and marks. Indexes of libyaml, which count characters, are
 turned into bytes. Each record says where the input has the token's text as it is. Then bogzhami_next takes the tokens in batches
-of eight sizes, and bogzhami_peek shows each before it is taken, with much room for texts and with just as much as a token needs.
+of eight sizes, and bogzhami_peek shows each before it is taken, with much room for texts and with just as much as a token needs;
+and bogzhami_next_piece takes them while the mutant comes in pieces of one byte, and of some more.
 Each of these calls gives exactly what bogzhami_scan_all says, also before a fault. They are made with libyaml's key limit, and
 with another: 1 to 40 and 65,536 by turns.
 
