@@ -14,22 +14,25 @@ for this. Each of these differences is recognised exactly, and has to occur:
   before all tokens of that block. Here most tokens in front of the fault come first. Either list is a beginning of what
   libyaml makes of the text in front of the fault, and then the same fault; or it is all that libyaml makes of that
   text, if that ends with an error.
-- An input that is no string is read to its end before the first token. So it makes no difference in what pieces it is
-  read, and a read that fails is told before all tokens. It is read from a file, and by handlers that give one byte a call and
-  more, or that fail at a call.
+- What libyaml makes of the bytes that came is made of them here once seven characters more came, and not always before. That
+  is seen by reads that fail: they are told as libyaml tells them, after a beginning of all tokens, and in UTF-16 before all.
+
+It makes no difference in what pieces an input is read: from a file, and by handlers that give 1, 7 or 4,096 bytes a call. A
+second program (uses/libyaml/talk.c) lists events over a pipe, and is given the next document when it has listed the one
+before. Long comments that come in small pieces take no longer than they should. A read handler is asked for as many bytes
+as by libyaml, and for more within a long comment.
 
 A parser that is given up half-way has given a beginning of what it would have given. PyYAML's C loader is run over
 either library: the objects are the same, and so are the words of the errors, but for the same differences. A text that is nested
 30,000 deep is scanned by it in less than two seconds, for which libyaml needs at least ten times as long. Of a few
 small inputs each request for memory is refused in turn; a string needs fewer than an input that is read, since it is not
-copied. Valgrind looks at a hundred inputs and some longer ones, in eleven ways each: scanned to their end, read in pieces, with
+copied. Valgrind looks at a hundred inputs and some longer ones, in thirteen ways each: scanned to their end, read in pieces, with
 reads that fail, and given up half-way. What needs a C compiler, libyaml-dev, a PyYAML that stands on libyaml's shared library, or
 valgrind is skipped if there is none.
 """
 
 import codecs
 import gzip
-import itertools
 import os
 import re
 import shutil
@@ -39,27 +42,21 @@ import tempfile
 
 HERE = os.path.dirname(os.path.abspath(__file__))
 TOP = os.path.dirname(HERE)
-USE = os.path.join(TOP, "uses", "libyaml")
-OURS = os.path.join(USE, "out")
 sys.path.insert(0, os.path.join(HERE, "lib"))
 sys.path.insert(0, os.path.join(TOP, "bench"))
 sys.dont_write_bytecode = True
 from realistic import realistic
 from library import build_library
+from libyaml_lists import (ALL, FILE, GIVEN_UP, OURS, READER_FAULT, USE, as_spelled, by_characters, codec_of, environment, listed,
+                           questions, run)
+from read_handlers import try_handlers
 from worked import rows
 
 STRICT = ["-std=c11", "-Wall", "-Wextra", "-pedantic", "-Werror", "-O2"]
 SETTINGS = ["any", "utf8", "utf16le", "utf16be"]
-CODECS = [None, "utf-8", "utf-16-le", "utf-16-be"]
-BYTE_ORDER_MARKS = [(b"\xff\xfe", "utf-16-le"), (b"\xfe\xff", "utf-16-be"), (b"\xef\xbb\xbf", "utf-8")]
 KINDS = ["tokens", "events", "nodes"]
 DIFFERENCES = ["index", "limit", "spelling", "late"]
-READER_FAULT = "ERROR 2 "
 NO_ERROR = "'-'"
-GIVEN_UP = "GIVEN UP"
-# for list.c, in place of how many bytes a read handler gives in a call: the input is a file
-FILE = -1
-ALL = 10**9
 # what the shim has room for: the tokens of a batch, and at first the bytes of their texts
 BATCH = 256
 TEXT_ROOM = 16384
@@ -84,6 +81,8 @@ WAYS = [
     ("tokens", FILE, 0, ALL),
     ("tokens", 1, 3, ALL),
     ("events", 5, 2, ALL),
+    ("events", 9, 6, ALL),
+    ("nodes", 4096, 0, ALL),
     ("tokens", 0, 0, 0),
     ("tokens", 0, 0, 3),
     ("tokens", 0, 0, BATCH + 1),
@@ -121,14 +120,6 @@ def has_libyaml():
     paths = [output(["cc", "-print-file-name=" + name]).strip() for name in ("libyaml.a", "libyaml.so")]
     told = subprocess.run(["cc", "-fsyntax-only", "-x", "c", "-"], input=b"#include <yaml.h>\n", capture_output=True)
     return all(map(os.path.isfile, paths)) and told.returncode == 0
-
-
-def environment(library):
-    return {**os.environ, "LD_LIBRARY_PATH": library, "PYTHONHASHSEED": "0", "PYTHONIOENCODING": "utf-8"}
-
-
-def run(words, given, library, **more):
-    return subprocess.run(words, input=given, capture_output=True, env=environment(library), timeout=600, **more)
 
 
 def vectors():
@@ -178,28 +169,6 @@ def yaml_files():
                     yield 0, file.read()
 
 
-def questions(kind, inputs, chunk=0, fail=0, most=ALL):
-    words = [(kind.encode(), setting, chunk, fail, most, len(data), data) for setting, data in inputs]
-    return b"".join(b"%s %d %d %d %d %d\n%s" % one for one in words)
-
-
-def listed(program, library, kind, inputs, chunk=0, fail=0, most=ALL):
-    """What the program lists for each input with the library of that folder, or with libyaml's own if it is empty."""
-    asked = questions(kind, inputs, chunk, fail, most)
-    told = run([program], asked, library, check=True)
-    lists = told.stdout.decode("utf-8", "replace").split("\n\n")[:-1]
-    if len(lists) != len(inputs):
-        sys.exit(f"libyaml: {len(lists)} lists for {len(inputs)} inputs")
-    return [text.split("\n") for text in lists]
-
-
-def codec_of(setting, data):
-    """The codec of an input and how many bytes its byte order mark has, which belongs to no text."""
-    if setting:
-        return CODECS[setting], 0
-    return next(((codec, len(mark)) for mark, codec in BYTE_ORDER_MARKS if data.startswith(mark)), ("utf-8", 0))
-
-
 class Front:
     """What stands in front of a reader's fault: text, bytes, and the input with a scalar of as many bytes there."""
 
@@ -215,20 +184,6 @@ class Front:
 def fault_offset(*lists):
     """Where the reader's fault is of which one of the lists tells, or None."""
     return next((int(lines[-1].split(" ")[4]) for lines in lists if lines[-1].startswith(READER_FAULT)), None)
-
-
-def by_characters(lines, text):
-    """The list, with indexes of marks that count characters of the text."""
-    if text.isascii():
-        return lines
-    starts = [byte & 0xC0 != 0x80 for byte in text.encode()]
-    before = list(itertools.accumulate(starts, initial=0))
-    return [re.sub(r"(?<= )(\d+)(?=:\d+:\d+)", lambda index: str(before[int(index[1])]), line) for line in lines]
-
-
-def as_spelled(lines):
-    """The list, with an error's words as libyaml spells them."""
-    return [*lines[:-1], re.sub(r"(?<=; did not find expected )hexadecimal(?= number$)", "hexdecimal", lines[-1])]
 
 
 def is_late(lines, in_front, fault):
@@ -249,15 +204,19 @@ def widened(text):
 
 
 class Comparison:
-    """The lists of both libraries for many inputs: how many there are of each kind, and which are wrong."""
+    """The lists of both libraries for many inputs: how many there are of each kind, and which are wrong.
 
-    def __init__(self, program, kind, inputs):
-        theirs, ours = listed(program, "", kind, inputs), listed(program, OURS, kind, inputs)
+    Here a read handler may give so many bytes in a call, where libyaml is given a string.
+    """
+
+    def __init__(self, program, kind, inputs, chunk=0):
+        theirs, ours = listed(program, "", kind, inputs), listed(program, OURS, kind, inputs, chunk)
         fronts = [Front(*one, fault_offset(*lists)) for one, *lists in zip(inputs, ours, theirs)]
         in_front = listed(program, "", kind, [(setting, front.data) for (setting, _), front in zip(inputs, fronts)])
         faults = listed(program, "", "tokens", [(setting, front.probe) for (setting, _), front in zip(inputs, fronts)])
         wide = listed(program, "", kind, [(0, widened(front.text)) for front in fronts])
-        self.kind, self.seen, self.wrong, self.limited = kind, dict.fromkeys(DIFFERENCES, 0), [], []
+        self.kind = f"{kind}, {chunk} bytes a call" if chunk else kind
+        self.seen, self.wrong, self.limited = dict.fromkeys(DIFFERENCES, 0), [], []
         for given, own, their, front, *more in zip(inputs, ours, theirs, fronts, in_front, faults, wide):
             name = self.difference(own, their, front, *more)
             if name == "wrong":
@@ -278,13 +237,14 @@ class Comparison:
             return "late"
         return "limit" if not front.text.isascii() and outline(own) == outline(wide) else "wrong"
 
-    def tell(self):
+    def tell(self, least):
+        """Says what there is, and returns whether nothing is wrong, and at least so many lists are the same."""
         seen = ", ".join(f"{self.seen[name]} {name}" for name in DIFFERENCES)
         same = f"{self.seen['same']} lists are the same"
         print(f"libyaml: {self.kind}: {same}; documented differences: {seen}; {len(self.wrong)} wrong")
         for (setting, data), *lists in self.wrong[:3]:
             print(SETTINGS[setting], data[:100], *(f"\n  {str(lines[-3:])[:400]}" for lines in lists))
-        return not self.wrong and self.seen["same"] > 10000 and all(self.seen.values())
+        return not self.wrong and self.seen["same"] > least and all(self.seen[name] for name in DIFFERENCES if name != "limit")
 
 
 def exported(path):
@@ -307,32 +267,22 @@ def try_names(program):
 def try_lists(program, every):
     """Whether all lists are right, and the inputs in which a key is over the limit of bytes alone."""
     made = [Comparison(program, kind, every) for kind in KINDS]
-    return all([one.tell() for one in made]), [given for one in made for given in one.limited]
+    limited = [given for one in made for given in one.limited]
+    return all([one.tell(10000) for one in made]) and len(limited) > 0, limited
 
 
-def failing_reads(program, kind, inputs):
-    """How many inputs have a read that fails, and how many of them are told wrongly."""
-    total, wrong = 0, 0
-    for chunk, fail in [(1, 1), (1, 2), (2, 3), (5, 2), (1, 40), (4096, 2)]:
-        long_enough = [one for one in inputs if len(one[1]) > chunk * fail]
-        wanted = [f"ERROR 2 0:0:0 0:0:0 {chunk * (fail - 1)} -1 -; input error"]
-        total += len(long_enough)
-        wrong += sum(lines != wanted for lines in listed(program, OURS, kind, long_enough, chunk, fail))
-    return total, wrong
+def try_chunks(program, inputs):
+    """Whether the lists are right if a read handler gives the input, in small pieces and in larger ones."""
+    return all([Comparison(program, kind, inputs, chunk).tell(1000) for kind in KINDS for chunk in (1, 7, 4096)])
 
 
-def try_pieces(program, inputs):
-    """A file and small pieces make no difference; a read that fails, and an encoding that there is not, are told."""
-    differ = failing = wrong = 0
-    for kind in KINDS:
-        whole = listed(program, OURS, kind, inputs)
-        differ += sum(listed(program, OURS, kind, inputs, chunk) != whole for chunk in (FILE, 1, 3, 4096))
-        counts = failing_reads(program, kind, inputs)
-        failing, wrong = failing + counts[0], wrong + counts[1]
-    wrong += listed(program, OURS, "tokens", [(4, b"a")]) != [["ERROR 2 0:0:0 0:0:0 0 -1 -; unknown encoding"]]
-    found = f"{differ} of these differ; {failing} reads fail, {wrong} wrong"
-    print(f"libyaml: {len(inputs)} inputs read from a file and in three sizes of pieces, {found}")
-    return not differ and not wrong and len(inputs) > 100 and failing > 1000
+def try_files(program, inputs):
+    """Whether a file gives the lists of a string, and an encoding that there is not is told, of a string and of a file."""
+    differ = sum(listed(program, OURS, kind, inputs, FILE) != listed(program, OURS, kind, inputs) for kind in KINDS)
+    unknown = [["ERROR 2 0:0:0 0:0:0 0 -1 -; unknown encoding"]]
+    wrong = sum(listed(program, OURS, "tokens", [(4, b"a")], chunk) != unknown for chunk in (0, 1, FILE))
+    print(f"libyaml: {len(inputs)} inputs read from a file, {differ} of {len(KINDS)} kinds of lists differ, {wrong} wrong settings")
+    return not differ and not wrong and len(inputs) > 100
 
 
 def given_up(kind, lines, most):
@@ -443,7 +393,7 @@ def try_attack():
 
 
 def refusals(refuse, data):
-    """For tokens, events, and tokens that are read: how many requests, errors, wrong ends, and ends that keep some."""
+    """For tokens, events, and both if they are read: how many requests, errors, wrong ends, and ends that keep some."""
     told = run([refuse], data, OURS, check=True)
     lines = [line.split(" ") for line in told.stdout.decode().splitlines()]
     return {what: [int(count) for count in counts] for what, *counts in lines}
@@ -503,7 +453,9 @@ def main():
         good = [
             are_right,
             try_names(program),
-            try_pieces(program, every[::20]),
+            try_chunks(program, every[::8]),
+            try_files(program, every[::20]),
+            try_handlers(program, build(room, "talk"), every[::8]),
             try_given_up(program, [*every[::20], *ends]),
             try_python(program, [one for one in every[::2] if one not in limited]),
             try_attack(),

@@ -59,8 +59,9 @@ sys.dont_write_bytecode = True
 from ffi import vectors
 from installing import copy_of_checkout, wrong_in_checkout, wrong_stub, wrong_with_pip
 from library import build_library
-from libyaml import CODECS, batch_ends, long_texts, yaml_files
+from libyaml import batch_ends, long_texts, yaml_files
 from libyaml import vectors as settings_and_inputs
+from libyaml_lists import CODECS
 from realistic import realistic
 from worked import rows
 

@@ -60,8 +60,9 @@ def build_pieces(room, source, *more, name=""):
 class Course:
     """A run of the program, to which more is written once it has listed what is settled."""
 
-    def __init__(self, program, reading):
-        self.run = subprocess.Popen([program], stdin=reading, stdout=subprocess.PIPE, stderr=subprocess.PIPE)
+    def __init__(self, program, reading, environment=None):
+        pipe = subprocess.PIPE
+        self.run = subprocess.Popen([program], stdin=reading, stdout=pipe, stderr=pipe, env=environment)
         self.left = b""
 
     def lines(self, count):
@@ -81,10 +82,10 @@ class Course:
         return (self.left + listed).decode("ascii").splitlines(), told.decode("ascii"), self.run.returncode
 
 
-def course_problem(program, steps, status):
+def course_problem(program, steps, status, environment=None):
     """What is wrong with a run over a pipe, or None."""
     reading, writing = os.pipe()
-    course = Course(program, reading)
+    course = Course(program, reading, environment)
     os.close(reading)
     for data, wanted in steps:
         if data:

@@ -1,11 +1,11 @@
 /* refuse < FILE: takes the tokens and the events of a file again and again, and each time refuses another request for
  * memory: the first, then the second, and so on to the last. For tests/libyaml.py.
  *
- * Prints a line for tokens and one for events of a string, and one for tokens of an input that a read handler gives:
- * how many requests there are, how many refusals led to an error, how many ended wrongly, and how many kept memory. One
- * leads to an error if a beginning of what is taken with ample memory is taken, and then a call returns 0 with a memory
- * error. It ends wrongly if it does not and not everything is taken either. It keeps memory if some is not freed after
- * the parser was deleted. The exit status is 0, or 2 if the file is too large. */
+ * Prints a line for tokens and one for events of a string, one for tokens of an input that a read handler gives, and one
+ * for events of an input that it gives in ten pieces: how many requests there are, how many refusals led to an error, how
+ * many ended wrongly, and how many kept memory. One leads to an error if a beginning of what is taken with ample memory is
+ * taken, and then a call returns 0 with a memory error. It ends wrongly if it does not and not everything is taken either.
+ * It keeps memory if some is not freed after the parser was deleted. The exit status is 0, or 2 if the file is too large. */
 #include <stdint.h>
 #include <stdio.h>
 #include <stdlib.h>
@@ -20,8 +20,8 @@ extern void __libc_free(void *old);
 #define MOST 100000
 static unsigned char input[MOST];
 static size_t input_len;
-static int is_read;     /* whether a read handler gives the input */
-static size_t read_len; /* how much of it was given */
+static size_t most_read; /* how many bytes the read handler gives at most in a call, or 0 if the input is a string */
+static size_t read_len;  /* how much of it was given */
 static uint64_t traces[MOST]; /* of what was taken with ample memory: a number for each beginning of it */
 static size_t trace_count;
 
@@ -108,7 +108,9 @@ static int take_events(yaml_parser_t *parser, struct run *run) {
 
 static int read_input(void *data, unsigned char *buffer, size_t size, size_t *count) {
     (void)data;
-    *count = size < input_len - read_len ? size : input_len - read_len;
+    *count = size < most_read ? size : most_read;
+    if (*count > input_len - read_len)
+        *count = input_len - read_len;
     memcpy(buffer, input + read_len, *count);
     read_len += *count;
     return 1;
@@ -116,7 +118,7 @@ static int read_input(void *data, unsigned char *buffer, size_t size, size_t *co
 
 static void set_input(yaml_parser_t *parser) {
     read_len = 0;
-    if (is_read)
+    if (most_read)
         yaml_parser_set_input(parser, read_input, NULL);
     else
         yaml_parser_set_input_string(parser, input, input_len);
@@ -167,7 +169,9 @@ int main(void) {
         return 2;
     refuse_each("tokens", take_tokens);
     refuse_each("events", take_events);
-    is_read = 1;
+    most_read = MOST;
     refuse_each("read", take_tokens);
+    most_read = input_len / 10 + 1;
+    refuse_each("pieces", take_events);
     return 0;
 }

@@ -3,7 +3,8 @@
  * libyaml's own.
  *
  * When the first token is wanted, a scanner of the input is opened. That is tried once: parser->eof says that it was,
- * and the handle whether it is open. The scanner gives batches of tokens, each in the place of the one before it. What
+ * and the handle whether it is open. The scanner gives batches of tokens, each in the place of the one before it. A
+ * string is scanned as a whole. From a read handler a piece is read when no token is left of what came before it. What
  * is kept is in the two buffers that libyaml's own reader would fill, since libyaml's yaml_parser_delete frees them:
  * raw_buffer.start holds a struct held, and buffer.start the texts of the batch and the words of the fault. The
  * yaml_parser_delete of this file closes the scanner, and then calls libyaml's. */
@@ -17,6 +18,17 @@
 #define KEY_LIMIT 1024
 #define BATCH 256
 #define FIRST_ROOM 16384
+
+/* A read handler is asked for as many bytes as libyaml asks it for, or for more. */
+#define LEAST_READ 16384
+
+/* What waits to become a token is scanned again from its start when more of it came. Each byte that comes allows so many
+ * to be scanned again, and what is not used is kept, up to MOST_CREDIT: it is for small pieces of a text with lexemes of
+ * some kilobytes. From LONG bytes on what waits has to grow by a quarter. A piece of 4,096 bytes allows 1 MB, so it is
+ * always scanned at once while less than that waits. */
+#define CREDIT_OF_BYTE 256
+#define MOST_CREDIT ((size_t)1 << 26)
+#define LONG ((size_t)1 << 20)
 
 _Static_assert(sizeof(size_t) == sizeof(uint64_t), "a mark of libyaml holds 64 bits");
 _Static_assert(YAML_STREAM_START_TOKEN == (int)BOGZHAMI_STREAM_START_TOKEN, "both number the tokens alike");
@@ -37,13 +49,19 @@ struct input {
     size_t len;
     uint8_t *read; /* the memory of what was read, or NULL for a string */
     size_t room;
+    int is_whole;              /* whether no more will come */
+    yaml_error_type_t failure; /* why reading failed, if it did */
+    size_t settled;            /* how many bytes came before the end of the last token */
+    size_t scanned;            /* how many had come when they were scanned last */
+    size_t credit;             /* how many may be scanned again */
 };
 
 struct held {
     struct bogzhami_handle handle;
     struct input input;
     size_t text_room;
-    struct bogzhami_answer answer; /* of the call that gave the batch */
+    uint32_t status;               /* of the call that gave the batch; before the first one that bytes have to be read */
+    struct bogzhami_answer answer; /* of that call */
     uint64_t taken;                /* how many tokens of the batch were handed out */
     struct bogzhami_token batch[BATCH];
 };
@@ -87,54 +105,36 @@ static int make_held(yaml_parser_t *parser) {
     return make_text_room(parser, FIRST_ROOM);
 }
 
-static int grow(struct input *input) {
-    size_t room = input->room ? 2 * input->room : FIRST_ROOM;
-    uint8_t *read = room > input->room ? realloc(input->read, room) : NULL;
-    if (!read)
-        return 0;
-    input->bytes = input->read = read;
-    input->room = room;
-    return 1;
-}
+/* Whether the input is a string, which is the only input whose end is set. */
+static int is_string(const yaml_parser_t *parser) { return parser->input.string.end != NULL; }
 
-static int read_all(yaml_parser_t *parser, struct input *input) {
-    size_t count;
-    do {
-        if (input->len == input->room && !grow(input))
-            return fail_by_memory(parser);
-        count = 0;
-        unsigned char *next = input->read + input->len;
-        if (!parser->read_handler(parser->read_handler_data, next, input->room - input->len, &count))
-            return fail_by_reading(parser, "input error", input->len);
-        input->len += count;
-    } while (count > 0);
-    return 1;
-}
-
-/* Finds a string, which is the only input whose end is set, or reads another input to its end. */
-static int take_input(yaml_parser_t *parser, struct input *input) {
-    if (!parser->input.string.end)
-        return read_all(parser, input);
+static uint32_t open_string(const yaml_parser_t *parser, struct held *held) {
+    struct input *input = &held->input;
     input->bytes = parser->input.string.current;
     input->len = (size_t)(parser->input.string.end - parser->input.string.current);
-    return 1;
+    input->is_whole = 1;
+    return bogzhami_open(&held->handle, input->bytes, input->len, (uint32_t)parser->encoding, KEY_LIMIT);
+}
+
+static uint32_t open_pieces(const yaml_parser_t *parser, struct held *held) {
+    held->status = BOGZHAMI_MORE;
+    held->input.credit = MOST_CREDIT;
+    return bogzhami_open_pieces(&held->handle, (uint32_t)parser->encoding, KEY_LIMIT);
 }
 
 static int open_scanner(yaml_parser_t *parser, struct held *held) {
-    uint32_t encoding = (uint32_t)parser->encoding;
-    uint32_t status = bogzhami_open(&held->handle, held->input.bytes, held->input.len, encoding, KEY_LIMIT);
+    uint32_t status = is_string(parser) ? open_string(parser, held) : open_pieces(parser, held);
     if (status == BOGZHAMI_WRONG)
         return fail_by_reading(parser, "unknown encoding", 0);
     return status == BOGZHAMI_DONE || fail_by_memory(parser);
 }
 
-/* Makes sure that a scanner of the input is open. Whatever length is asked for, the whole input is there. */
+/* Makes sure that a scanner of the input is open. It reads what it needs, whatever length is asked for. */
 int yaml_parser_update_buffer(yaml_parser_t *parser, size_t length) {
     (void)length;
     if (parser->eof)
         return held_by(parser)->handle.live;
-    return make_held(parser) && take_input(parser, &held_by(parser)->input) &&
-           open_scanner(parser, held_by(parser));
+    return make_held(parser) && open_scanner(parser, held_by(parser));
 }
 
 /* Closes the scanner and frees what was read, and leaves all else to libyaml. */
@@ -171,22 +171,134 @@ static void end_words(const struct bogzhami_answer *answer, uint8_t *texts) {
     problem_end[1 + answer->context_len] = 0;
 }
 
-/* Gets the next batch in place of one that was handed out, and returns whether a token is in it. The room for texts
- * grows if the next text is too long for it. */
+/* How many bytes wait to become a token. It is not asked for once all came. */
+static size_t waiting(const struct input *input) { return input->len - input->settled; }
+
+/* Sees that there is room for so many bytes behind those that came. */
+static int make_room(struct input *input, size_t wanted) {
+    size_t least = input->len + wanted, doubled = 2 * input->room;
+    if (least <= input->room)
+        return 1;
+    size_t room = doubled > least ? doubled : least;
+    uint8_t *read = room > input->room ? realloc(input->read, room) : NULL;
+    if (!read)
+        return 0;
+    input->bytes = input->read = read;
+    input->room = room;
+    return 1;
+}
+
+/* Calls the read handler once. That this or memory for it fails is kept in the input. */
+static void read_piece(const yaml_parser_t *parser, struct input *input) {
+    size_t count = 0, wanted = waiting(input) > LEAST_READ ? waiting(input) : LEAST_READ;
+    if (!make_room(input, wanted)) {
+        input->failure = YAML_MEMORY_ERROR;
+        return;
+    }
+    if (!parser->read_handler(parser->read_handler_data, input->read + input->len, wanted, &count)) {
+        input->failure = YAML_READER_ERROR;
+        return;
+    }
+    input->len += count;
+    input->is_whole = count == 0;
+    size_t more = MOST_CREDIT - input->credit;
+    input->credit += count < more / CREDIT_OF_BYTE ? count * CREDIT_OF_BYTE : more;
+}
+
+/* Whether enough came for what waits to be scanned again. */
+static int is_due(const struct input *input) {
+    size_t grown = input->len - input->scanned;
+    if (waiting(input) < LONG)
+        return grown > 0 && waiting(input) <= input->credit;
+    return grown >= (waiting(input) - grown) / 4;
+}
+
+/* How many of the bytes spell whole characters of UTF-8: all but those of a character that the end cuts off. */
+static size_t whole_utf8(const uint8_t *bytes, size_t len) {
+    size_t lead = len;
+    while (lead > 0 && len - lead < 4) {
+        uint8_t octet = bytes[--lead];
+        size_t width = octet >= 0xF0 ? 4 : octet >= 0xE0 ? 3 : octet >= 0xC0 ? 2 : 1;
+        if ((octet & 0xC0) != 0x80)
+            return len - lead < width ? lead : len;
+    }
+    return len;
+}
+
+/* The same of UTF-16, in which the high octet of a unit is its first one or its second one. */
+static size_t whole_utf16(const uint8_t *bytes, size_t len, size_t high) {
+    size_t whole = len / 2 * 2;
+    return whole > 0 && (bytes[whole - 2 + high] & 0xFC) == 0xD8 ? whole - 2 : whole;
+}
+
+/* How many bytes libyaml's reader has decoded when a read fails: all whole characters. It begins with the third byte, since
+ * it looks for a byte order mark. */
+static size_t decoded_len(const yaml_parser_t *parser, const struct input *input) {
+    int is_any = parser->encoding == YAML_ANY_ENCODING;
+    if (is_any && input->len < 3)
+        return 0;
+    if (parser->encoding == YAML_UTF16LE_ENCODING || (is_any && !memcmp(input->bytes, "\xff\xfe", 2)))
+        return whole_utf16(input->bytes, input->len, 1);
+    if (parser->encoding == YAML_UTF16BE_ENCODING || (is_any && !memcmp(input->bytes, "\xfe\xff", 2)))
+        return whole_utf16(input->bytes, input->len, 0);
+    return whole_utf8(input->bytes, input->len);
+}
+
+/* Reads until what waits is to be scanned again. Returns 0 if reading failed, and all that came before was scanned. */
+static int read_on(yaml_parser_t *parser, struct held *held) {
+    struct input *input = &held->input;
+    while (!input->is_whole && !input->failure && (held->status == BOGZHAMI_WHOLE || !is_due(input)))
+        read_piece(parser, input);
+    if (input->is_whole || input->len > input->scanned)
+        return 1;
+    if (input->failure == YAML_MEMORY_ERROR)
+        return fail_by_memory(parser);
+    return fail_by_reading(parser, "input error", decoded_len(parser, input));
+}
+
+/* Calls the scanner once, for a batch in place of one that was handed out. */
+static uint32_t call_scanner(yaml_parser_t *parser, struct held *held) {
+    const struct input *input = &held->input;
+    uint64_t needed_from; /* what came is kept from its start, and so all that is needed */
+    if (is_string(parser))
+        return bogzhami_next(&held->handle, input->bytes, input->len, held->batch, BATCH, parser->buffer.start,
+                             held->text_room, &held->answer);
+    return bogzhami_next_piece(&held->handle, 0, input->bytes, input->len, input->is_whole, held->batch, BATCH,
+                               parser->buffer.start, held->text_room, &held->answer, &needed_from);
+}
+
+/* Gets a batch of what came. The room for texts grows if the next text is too long for it. */
+static void scan(yaml_parser_t *parser, struct held *held) {
+    struct input *input = &held->input;
+    do
+        held->status = call_scanner(parser, held);
+    while (held->status == BOGZHAMI_NO_ROOM && make_text_room(parser, held->answer.text_len));
+    held->taken = 0;
+    input->scanned = input->len;
+    if (held->answer.token_count > 0)
+        input->settled = held->batch[held->answer.token_count - 1].end_mark.index;
+    if (held->status == BOGZHAMI_MORE)
+        input->credit -= waiting(input) < input->credit ? waiting(input) : input->credit;
+}
+
+static int wants_more(const struct held *held) {
+    return held->status == BOGZHAMI_MORE || held->status == BOGZHAMI_WHOLE;
+}
+
+/* Gets the next batch in place of one that was handed out, and returns whether a token is in it. */
 static int fetch_batch(yaml_parser_t *parser, struct held *held) {
-    uint32_t status;
     if (held->answer.error)
         return fail_by_fault(parser, &held->answer);
-    do
-        status = bogzhami_next(&held->handle, held->input.bytes, held->input.len, held->batch, BATCH,
-                               parser->buffer.start, held->text_room, &held->answer);
-    while (status == BOGZHAMI_NO_ROOM && make_text_room(parser, held->answer.text_len));
-    held->taken = 0;
-    if (status == BOGZHAMI_FAULT)
+    do {
+        if (wants_more(held) && !read_on(parser, held))
+            return 0;
+        scan(parser, held);
+    } while (wants_more(held) && held->answer.token_count == 0);
+    if (held->status == BOGZHAMI_FAULT)
         end_words(&held->answer, parser->buffer.start);
     if (held->answer.token_count > 0)
         return 1;
-    return status == BOGZHAMI_FAULT ? fail_by_fault(parser, &held->answer) : 0;
+    return held->status == BOGZHAMI_FAULT ? fail_by_fault(parser, &held->answer) : 0;
 }
 
 /* A copy of a text with a 0 after it, which yaml_token_delete frees, or NULL if there is no memory. */
