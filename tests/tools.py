@@ -13,7 +13,13 @@ hint at a file of that name, and say that an input that is closed or a folder ca
 
 json lists the worked rows, every fifth input of vectors/scan.txt.gz, and inputs with characters that have to be escaped and
 with tags that are not UTF-8. Each line is an object with the members that docs/COMMANDS.md names, in that order, and stands for
-the line that `scan` has to give (lib/json_lines.py). Each request for memory is refused in turn on five inputs.
+the line that `scan` has to give (lib/json_lines.py); it is the same if the input comes in pieces of 1, 7 and 4,096 bytes. Each
+request for memory is refused in turn on five inputs.
+
+Over a pipe that stays open json lists what is settled before more comes, and after a read that fails, and gives no byte again too
+often (lib/piped.py). highlight shows what is settled, and after a read that fails all that came, and lint prints the messages of a
+document after the marker behind it; what they write of some inputs, step by step, is written down in lib/following.py. All three
+end at an interrupt and at a closed output while they wait.
 
 With the files of packaging/completions, bash, zsh and fish complete lines to the commands, encodings, files and to exactly the
 options that `--help` names. What needs a C compiler, rustc (1.63 or later) or a shell is skipped if there is none.
@@ -32,8 +38,11 @@ sys.path[:0] = [HERE, os.path.join(HERE, "lib")]
 sys.dont_write_bytecode = True
 from completing import try_completions
 from ffi import FFI, build_rust, has_rust
-from json_lines import try_lines, try_memory
+from following import try_following
+from json_lines import scan_line, try_lines, try_memory
 from library import TOP, VERSION, build_library
+from piped import JSON as JSON_SOURCE
+from piped import try_pipes
 from statuses import WRONG
 
 PROGRAM = os.path.join(TOP, "crates", "yamltok", "out", "yamltok")
@@ -295,8 +304,9 @@ def main():
         print("tools: words of ./run skipped: no program is built")
     with open_room() as room:
         programs = build(room)
-        good += [try_tools(programs), try_lines(programs[JSON], program if os.path.exists(program) else None)]
-        good.append(try_memory(programs[JSON], room))
+        good += [try_tools(programs), try_lines(programs[JSON], program if os.path.exists(program) else None, room)]
+        good += [try_memory(programs[JSON], room), try_pipes(JSON_SOURCE, room, "tools", scan_line)]
+        good.append(try_following(programs[JSON], programs[LINT], programs.get(HIGHLIGHT), room))
     with open_room() as room:
         good.append(try_completions(room, OPTIONS))
     return 0 if all(good) else 1

@@ -3,7 +3,8 @@
 
 lint: small inputs of each kind of message, whose whole output and exit status are compared. The inputs of vectors/rows.txt and
 vectors/scan.txt.gz that are scanned in any encoding with the usual key limit end with status 0 or 1 and with the expected
-fault, thirty of them under valgrind. Each request for memory is refused in turn on four small inputs and on a folder.
+fault, thirty of them under valgrind; in pieces of 1, 7 and 4,096 bytes the messages are the same. Each request for memory is
+refused in turn on four small inputs and on a folder.
 
 lint of folders: the YAML files below them in order of name, also if there are many, and no links, pipes or other names. A name
 that is not there, a folder and a file that may not be read, and a path that is too long each have their line and the status 3;
@@ -12,12 +13,12 @@ all else is looked at.
 highlight: on the worked rows and every third of those inputs the terminal's output without the escape sequences, and the page
 without tags and entities, are the input byte for byte, where what a terminal would act on and what a page may not hold stand as
 their bytes; for UTF-16 they are its text. With NO_COLOR the terminal gets the same without sequences. In a real terminal the last
-line is ended before a message, and only there. On the page each token
-that the vectors name has the colour of its kind, comments have theirs, nothing else between tokens has one, and the fault is
-marked at its place. The colours of some inputs are written down here, for the terminal and the page.
+line is ended before a message, and only there. On the page each token that the vectors name has the colour of its kind, comments
+have theirs, nothing else between tokens has one, and the fault is marked at its place. The colours of some inputs are written
+down here, for the terminal and the page. What is read in pieces of 1, 7 and 4,096 bytes is shown as the whole.
 
-Both: inputs of 100,000 openers, keys, anchors and so on end within five seconds each. What needs a C compiler, rustc (1.63 or
-later) or valgrind is skipped when there is none, and that is said.
+Both: inputs of 100,000 openers, keys, anchors and so on end within five seconds each, also in pieces of 100 bytes.
+What needs a C compiler, rustc (1.63 or later) or valgrind is skipped when there is none, and that is said.
 """
 
 import html.parser
@@ -36,6 +37,7 @@ USES = os.path.join(os.path.dirname(HERE), "uses")
 sys.path[:0] = [HERE, os.path.join(HERE, "lib")]
 sys.dont_write_bytecode = True
 from ffi import FFI, build_rust, has_rust, vectors
+from following import SIZES, build_reads
 from library import build_library
 from worked import build_refuser, rows, run
 
@@ -166,6 +168,15 @@ def call(room, words, **variables):
     return subprocess.run(words, cwd=room, capture_output=True, timeout=300, env=environment)
 
 
+def unlike_whole(room, words, reads, **variables):
+    """What is written otherwise than of whole files if these are read in pieces."""
+    whole = call(room, words, **variables)
+    for size in SIZES:
+        done = call(room, words, LD_PRELOAD=reads, READ_MOST=str(size), **variables)
+        if (done.stdout, done.stderr, done.returncode) != (whole.stdout, whole.stderr, whole.returncode):
+            yield f"{words} are read otherwise in pieces of {size}"
+
+
 def every(function, items):
     with ThreadPoolExecutor(max_workers=os.cpu_count()) as pool:
         return list(pool.map(function, items))
@@ -233,9 +244,11 @@ def fault_message(line):
     return f"{place(words[3])}: {problem}{start}"
 
 
-def lint_batch_wrong(lint, room, batch):
-    """Whether a call ended or printed otherwise than it should: with status 0 or 1, messages, and the wanted faults."""
-    done = call(room, [lint, *(name for name, _, _ in batch)])
+def lint_batch_wrong(lint, room, batch, reads):
+    """Whether a call ended or printed otherwise than it should: with status 0 or 1, messages, and the wanted faults. In pieces it
+    does the same."""
+    words = [lint, *(name for name, _, _ in batch)]
+    done = call(room, words)
     lines = done.stdout.decode().split("\n")[:-1]
     found = {name: [] for name, _, _ in batch}
     for line in lines:
@@ -248,15 +261,16 @@ def lint_batch_wrong(lint, room, batch):
             return f"{data}: {wanted[-1]} is not told"
     if done.stderr != b"" or done.returncode != (1 if lines else 0):
         return f"status {done.returncode}, {done.stderr[:80]}"
-    return None
+    return next(unlike_whole(room, words, reads), None)
 
 
 def try_lint_inputs(lint, scans):
     with tempfile.TemporaryDirectory() as room:
         names = write_files(room, [data for data, _ in scans])
         parts = batches([(name, *scan) for name, scan in zip(names, scans)])
-        wrong = [text for text in every(lambda part: lint_batch_wrong(lint, room, part), parts) if text]
-        print(f"uses: lint: {len(names)} inputs in {len(parts)} calls, {len(wrong)} wrong {wrong[:3] or ''}")
+        reads = build_reads(room)
+        wrong = [text for text in every(lambda part: lint_batch_wrong(lint, room, part, reads), parts) if text]
+        print(f"uses: lint: {len(names)} inputs in {len(parts)} calls, whole and in pieces, {len(wrong)} wrong {wrong[:3] or ''}")
         if shutil.which("valgrind") is None:
             print("uses: valgrind skipped: there is none")
             return not wrong
@@ -508,6 +522,7 @@ def try_pieces(highlight):
     files = ["highlight/page.yaml", "lint/mistakes.yaml"]
     wrong = sum(file_wrong(highlight, name) for name in files)
     with tempfile.TemporaryDirectory() as room:
+        wrong += len(list(other_pieces(highlight, USES, files, build_reads(room))))
         wrong += sum(pieces_wrong(highlight, room, row) for row in PIECES)
         write_files(room, [b"<&>\"'\r\n"])
         page = call(room, [highlight, "--html", "0.yaml"]).stdout
@@ -641,12 +656,18 @@ def classes_wrong(pieces, data, lines):
     return None
 
 
-def batch_wrong(highlight, room, batch):
+def other_pieces(highlight, room, names, reads):
+    """What is shown otherwise than of whole files if these are read in pieces."""
+    for words, no_color in ([], ""), ([], "1"), (["--html"], ""):
+        yield from unlike_whole(room, [highlight, *words, *names], reads, NO_COLOR=no_color)
+
+
+def batch_wrong(highlight, room, batch, reads):
     """What is wrong with the page and the terminal's output for a batch of inputs, each with its name and its lines."""
     names = [name for name, _, _ in batch]
     terminal, page = call(room, [highlight, *names]), call(room, [highlight, "--html", *names])
     faulty = any(lines[-1].startswith("FAULT") for _, _, lines in batch)
-    bad = []
+    bad = list(other_pieces(highlight, room, names, reads))
     texts = [shown_text(data) for _, data, _ in batch]
     if joined(terminal_pieces(terminal.stdout)) != b"".join(texts):
         bad.append(f"the terminal's output is another text: {names}")
@@ -673,11 +694,11 @@ def batch_wrong(highlight, room, batch):
 def try_texts(highlight, scans):
     with tempfile.TemporaryDirectory() as room:
         names = write_files(room, [data for data, _ in scans])
-        batch = [(name, *scan) for name, scan in zip(names, scans)]
-        bad = [text for part in every(lambda part: batch_wrong(highlight, room, part), batches(batch)) for text in part]
+        batch, reads = [(name, *scan) for name, scan in zip(names, scans)], build_reads(room)
+        bad = [text for part in every(lambda part: batch_wrong(highlight, room, part, reads), batches(batch)) for text in part]
     for text in bad[:5]:
         print(f"uses: highlight: {text[:600]}")
-    print(f"uses: highlight: {len(scans)} texts in the terminal and on pages, {len(bad)} wrong")
+    print(f"uses: highlight: {len(scans)} texts in the terminal and on pages, whole and in pieces, {len(bad)} wrong")
     return not bad
 
 
@@ -697,17 +718,20 @@ def hostile():
     yield "aliases", b"- &a b\n" + b"- *a\n" * SIZE
     yield "blanks", b" " * SIZE * 10
     yield "no text", b"a: 1\n#" + b"\xff" * SIZE * 10
+    yield "behind a fault", b"a: b: c\n" + b"d" * SIZE * 30
+    yield "literal", b"- |\n" + b" line\n" * SIZE
 
 
 def try_hostile(programs):
     wrong, count = 0, 0
     with tempfile.TemporaryDirectory() as room:
+        reads = {"LD_PRELOAD": build_reads(room), "READ_MOST": "100"}
         for name, data in hostile():
             with open(os.path.join(room, name), "wb") as out:
                 out.write(data)
-            for words in programs:
+            for words, variables in [*((words, {}) for words in programs), *((words, reads) for words in programs)]:
                 began = time.monotonic()
-                done = call(room, [*words, name])
+                done = call(room, [*words, name], **variables)
                 taken = time.monotonic() - began
                 count += 1
                 if done.returncode not in (0, 1) or taken > SECONDS:

@@ -7,6 +7,7 @@ import subprocess
 from concurrent.futures import ThreadPoolExecutor
 
 from ffi import vectors
+from following import SIZES, build_reads, in_pieces
 from repository import read
 from worked import build_refuser, rows, run
 
@@ -69,6 +70,14 @@ def line_of(made):
     return " ".join([kind, mark(made["start"]), mark(made["end"]), *rest])
 
 
+def scan_line(line):
+    """The line of `scan` that a line of JSON stands for, or the line itself if it stands for none."""
+    try:
+        return line_of(read_line(line))
+    except (ValueError, KeyError, AttributeError, TypeError):
+        return line
+
+
 def members_said():
     """The members of each type, and of each kind of fault, that docs/COMMANDS.md names."""
     table = read("docs/COMMANDS.md").partition("| `type` | Members |\n|---|---|\n")[2].partition("\n\n")[0]
@@ -81,7 +90,16 @@ def members_said():
     return said
 
 
-def wrong_with(program, row, said):
+def wrong_in_pieces(words, data, whole, reads):
+    """What is written otherwise than for the whole input if it comes in pieces, or None."""
+    for size in SIZES:
+        done = subprocess.run(words, input=data, capture_output=True, timeout=60, env=in_pieces(reads, size))
+        if (done.stdout, done.stderr, done.returncode) != (whole.stdout, whole.stderr, whole.returncode):
+            return f"{words[1:]} {data[:80]}, pieces of {size}: {done.stdout[:300]}, status {done.returncode}, {done.stderr[:80]}"
+    return None
+
+
+def wrong_with(program, row, said, reads):
     """What is wrong with what is written for an input, or None."""
     words, data, wanted = row
     options = [word for pair in zip(("-e", "-l"), words) for word in pair]
@@ -98,7 +116,7 @@ def wrong_with(program, row, said):
         name = made.get("error", made["type"])
         if list(made)[1:] != said.get(name, said["other"]):
             return f"{data[:80]}: {name} has the members {list(made)}"
-    return None
+    return wrong_in_pieces([program, *options], data, done, reads)
 
 
 def inputs(program):
@@ -110,12 +128,13 @@ def inputs(program):
         yield ["any"], data, done.stdout.decode("ascii").splitlines()
 
 
-def try_lines(path, program):
-    """Whether the objects of many inputs are those of the expected lines. `program` is yamltok, or None."""
-    every, said = list(inputs(program)), members_said()
+def try_lines(path, program, room):
+    """Whether the objects of many inputs are those of the expected lines, also if the inputs come in pieces. `program` is yamltok,
+    or None."""
+    every, said, reads = list(inputs(program)), members_said(), build_reads(room)
     with ThreadPoolExecutor(max_workers=os.cpu_count()) as pool:
-        wrong = [text for text in pool.map(lambda row: wrong_with(path, row, said), every) if text]
-    print(f"tools: json: {len(every)} inputs listed, {len(wrong)} wrong {wrong[:3] or ''}", flush=True)
+        wrong = [text for text in pool.map(lambda row: wrong_with(path, row, said, reads), every) if text]
+    print(f"tools: json: {len(every)} inputs listed, whole and in pieces, {len(wrong)} wrong {wrong[:3] or ''}", flush=True)
     return not wrong and len(every) > 4000 and len(said) == 11
 
 

@@ -1,4 +1,5 @@
-"""The examples pieces.c and pieces.cc over pipes: what they list before more comes, and if reading fails; how much is read again."""
+"""The examples pieces.c and pieces.cc, and uses/json, over pipes: what they list before more comes, and if reading fails; how much
+is read again."""
 
 import os
 import select
@@ -45,25 +46,27 @@ COURSES = [(MAPPING, 0), (FLOW, 0), (UTF16, 0), (FAULT, 1)]
 
 LITERAL_LINE = b"  a line of text\n"
 
+JSON = os.path.join(os.path.dirname(FFI), "uses", "json", "json.c")
 FLAGS = ["-Wall", "-Wextra", "-Wpedantic", "-Werror", "-O2", "-I", FFI]
-COMPILERS = {"pieces.c": ["cc", "-std=c99"], "pieces.cc": ["c++", "-std=c++17"]}
-NAMES = {"pieces.c": "pieces", "pieces.cc": "pieces_cc"}
+COMPILERS = {"pieces.c": ["cc", "-std=c99"], "pieces.cc": ["c++", "-std=c++17"], JSON: ["cc", "-std=c11"]}
+NAMES = {"pieces.c": "pieces", "pieces.cc": "pieces_cc", JSON: "bogzhami-json"}
 
 
 def build_pieces(room, source, *more, name=""):
-    """Builds an example, with more words for the compiler."""
+    """Builds an example of ffi/, or json, with more words for the compiler."""
     path = os.path.join(room, NAMES[source] + name)
     subprocess.run([*COMPILERS[source], *FLAGS, os.path.join(FFI, source), *more, *STATIC, "-o", path], check=True)
     return path
 
 
 class Course:
-    """A run of the program, to which more is written once it has listed what is settled."""
+    """A run of the program, to which more is written once it has listed what is settled. `line_of` makes the line of a scan of a
+    line of the program."""
 
-    def __init__(self, program, reading, environment=None):
+    def __init__(self, program, reading, line_of=str, environment=None):
         pipe = subprocess.PIPE
         self.run = subprocess.Popen([program], stdin=reading, stdout=pipe, stderr=pipe, env=environment)
-        self.left = b""
+        self.left, self.line_of = b"", line_of
 
     def lines(self, count):
         """The next lines, so many of them, or as many as come in time."""
@@ -74,18 +77,19 @@ class Course:
                 break
             self.left += more
         *found, self.left = self.left.split(b"\n", count) if self.left.count(b"\n") >= count else [self.left, b""]
-        return [line.decode("ascii") for line in found]
+        return [self.line_of(line.decode("ascii")) for line in found]
 
     def end(self):
         """What is listed at last, what is said, and the status."""
         listed, told = self.run.communicate(timeout=WAIT)
-        return (self.left + listed).decode("ascii").splitlines(), told.decode("ascii"), self.run.returncode
+        lines = (self.left + listed).decode("ascii").splitlines()
+        return [self.line_of(line) for line in lines], told.decode("ascii"), self.run.returncode
 
 
-def course_problem(program, steps, status, environment=None):
+def course_problem(program, steps, status, line_of=str, environment=None):
     """What is wrong with a run over a pipe, or None."""
     reading, writing = os.pipe()
-    course = Course(program, reading, environment)
+    course = Course(program, reading, line_of, environment)
     os.close(reading)
     for data, wanted in steps:
         if data:
@@ -114,10 +118,10 @@ def lines_of_entries(first, end):
         yield f"SCALAR {at + 2}:{n}:2 {at + 7}:{n}:7 plain 656e747279"
 
 
-def try_followed(program):
+def try_followed(program, script, line_of):
     """Whether a long sequence is listed block by block, as it comes, also when a megabyte came before."""
     reading, writing = os.pipe()
-    course, each, listed, good = Course(program, reading), BLOCK // len(ENTRY), 0, True
+    course, each, listed, good = Course(program, reading, line_of), BLOCK // len(ENTRY), 0, True
     os.close(reading)
     start = ["STREAM-START 0:0:0 0:0:0 UTF8", "BLOCK-SEQUENCE-START 0:0:0 0:0:0"]
     for block in range(1, BLOCKS + 1):
@@ -131,8 +135,8 @@ def try_followed(program):
     rest = [*lines_of_entries(listed, each * BLOCKS), f"BLOCK-END {end} {end}", f"STREAM-END {end} {end}"]
     good = good and course.end() == (rest, "", 0)
     course.run.kill()
-    size = len(ENTRY) * each * BLOCKS
-    print(f"ffi: {os.path.basename(program)}, {BLOCKS} blocks of a sequence of {size} bytes, {'all right' if good else 'wrong'}")
+    size, told = len(ENTRY) * each * BLOCKS, "all right" if good else "wrong"
+    print(f"{script}: {os.path.basename(program)}, {BLOCKS} blocks of a sequence of {size} bytes, {told}", flush=True)
     return good
 
 
@@ -175,16 +179,16 @@ def compiled(room, name, source, *words):
     return path
 
 
-def try_failed(program, room):
+def try_failed(program, room, script, line_of):
     """Whether all that is settled is listed if reading fails. The end of the literal comes when so much of it came before that the
     program waits for more of it than that."""
     data, wanted = literal(1_500_000)
     failing = compiled(room, "failing.so", FAILING, "-shared", "-fPIC")
     done = subprocess.run([program], input=data, capture_output=True, timeout=WAIT, env={**os.environ, "LD_PRELOAD": failing})
-    listed, told = done.stdout.decode("ascii").splitlines(), done.stderr.decode("ascii")
+    listed, told = [line_of(line) for line in done.stdout.decode("ascii").splitlines()], done.stderr.decode("ascii")
     name = os.path.basename(program)
     good = (listed, told, done.returncode) == (wanted, f"{name}: standard input: Input/output error\n", 3)
-    print(f"ffi: {name}, reading fails: {len(listed)} lines, status {done.returncode}, {'all right' if good else 'wrong'}")
+    print(f"{script}: {name}, reading fails: {len(listed)} lines, status {done.returncode}, {'all right' if good else 'wrong'}")
     return good
 
 
@@ -213,22 +217,24 @@ SHORT = 1 << 20
 LEAST_READ = 4096
 
 
-def try_again(source, room):
+def try_again(source, room, script, line_of):
     """Whether the bytes of a long literal are given again a few times only, however many pieces they come in."""
     counter = compiled(room, "counter.o", COUNTER, "-c")
     program = build_pieces(room, source, counter, "-Wl,--wrap=bogzhami_next_piece", name="_counted")
     data, wanted = literal(LONG)
     done = subprocess.run([program], input=data, capture_output=True, timeout=2 * WAIT)
     given, most = int(done.stderr), MOST_GIVEN * len(data) + SHORT * SHORT // LEAST_READ
-    good = done.stdout.decode("ascii").splitlines()[: len(wanted)] == wanted and given < most
+    listed = [line_of(line) for line in done.stdout.decode("ascii").splitlines()[: len(wanted)]]
+    good = listed == wanted and given < most
     told = f"{given} bytes given in all calls, {'all right' if good else 'wrong'}"
-    print(f"ffi: {NAMES[source]}, a literal of {len(data)} bytes: {told}")
+    print(f"{script}: {NAMES[source]}, a literal of {len(data)} bytes: {told}")
     return good
 
 
-def try_pipes(source, room):
-    """Tries an example that was built before."""
+def try_pipes(source, room, script="ffi", line_of=str):
+    """Tries an example, or json, that was built before. `script` is told what comes of it."""
     program = os.path.join(room, NAMES[source])
-    wrong = [problem for steps, status in COURSES if (problem := course_problem(program, steps, status))]
-    print(f"ffi: {NAMES[source]}, {len(COURSES)} pipes, {len(wrong)} wrong {wrong[:1] or ''}")
-    return all([not wrong, try_followed(program), try_failed(program, room), try_again(source, room)])
+    wrong = [problem for steps, status in COURSES if (problem := course_problem(program, steps, status, line_of))]
+    print(f"{script}: {NAMES[source]}, {len(COURSES)} pipes, {len(wrong)} wrong {wrong[:1] or ''}", flush=True)
+    good = [not wrong, try_followed(program, script, line_of), try_failed(program, room, script, line_of)]
+    return all([*good, try_again(source, room, script, line_of)])

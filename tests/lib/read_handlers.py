@@ -166,7 +166,7 @@ def long_course():
 def try_talk(talk):
     """Whether the events of a document come over a pipe before the next one is written, also after much that came before."""
     courses = [("", THEIR_COURSE, 0), (OURS, COURSE, 0), (OURS, FAULTY_COURSE, 1), (OURS, long_course(), 0)]
-    wrong = [found for library, *course in courses if (found := course_problem(talk, *course, environment(library)))]
+    wrong = [found for library, *course in courses if (found := course_problem(talk, *course, environment=environment(library)))]
     print(f"libyaml: {len(courses)} pipes that are held open, {len(wrong)} wrong {wrong[:1] or ''}")
     return not wrong
 

@@ -1,27 +1,31 @@
-//! highlight [--html] [FILE ..]: shows YAML files in colours, in the terminal or as a page of HTML. Without a file, or for the file
-//! `-`, it reads standard input. The exit status is 0; 1 when a file has a fault; 2 when the words are wrong; 3 when a file can
-//! not be read, the output can not be written or memory is refused.
+//! highlight [--html] [FILE ..]: shows YAML files in colours, in the terminal or as a page of HTML, while they are read. Without a
+//! file, or for the file `-`, it reads standard input. The exit status is 0; 1 when a file has a fault; 2 when the words are wrong;
+//! 3 when a file can not be read, the output can not be written or memory is refused.
 mod page;
 mod pieces;
 #[path = "../../rust/src/scanner.rs"]
 mod scanner;
 mod screen;
+mod show;
 mod terminal;
 mod text;
 mod words;
 
-use pieces::Cutter;
-use scanner::{library_version, Fault, Scanner};
+use scanner::library_version;
 use screen::Screen;
+use show::Show;
 use std::ffi::{OsStr, OsString};
+use std::fs::File;
 use std::io::{self, ErrorKind, Read, Write};
 use std::path::Path;
 use std::process::ExitCode;
-use text::Text;
 use words::Asked;
 
 /// The exit status when reading or writing fails, or memory is refused.
 const LOST: u8 = 3;
+
+/// How many bytes are read at a time, at most.
+const ROOM: usize = 1 << 16;
 
 /// How texts are shown.
 #[derive(Clone, Copy, PartialEq, Eq)]
@@ -50,19 +54,26 @@ impl Command {
         Ok(LOST)
     }
 
-    /// Shows an input, and returns the exit status that it asks for.
-    fn show(&self, out: &mut Screen, title: &str, input: &[u8]) -> io::Result<u8> {
-        let text = Text::new(input);
-        let mut cutter = Cutter::new(&text.bytes);
-        let fault = cutter.tokens(Scanner::new(input));
-        if fault == Some(Fault::Memory) {
-            return self.fail(out, title, "out of memory");
-        }
-        let problem = fault.map(|fault| text.problem(input, &fault));
-        let pieces = cutter.finish(problem.as_ref());
-        match self.form {
-            Form::Page => page::write(out, title, &text, &pieces, problem.as_ref())?,
-            form => terminal::write(out, &text, &pieces, form == Form::Colours)?,
+    /// Shows a file while it is read, and returns the exit status that it asks for.
+    fn show(&self, out: &mut Screen, title: &str, mut file: impl Read) -> io::Result<u8> {
+        let mut show = Show::new(out, self.form, title);
+        let mut room = vec![0; ROOM];
+        let failure = loop {
+            match file.read(&mut room) {
+                Ok(0) => break None,
+                Ok(len) => {
+                    if show.add(&room[..len])? {
+                        break None; // memory was refused
+                    }
+                }
+                Err(error) if error.kind() == ErrorKind::Interrupted => (),
+                Err(error) => break Some(reason(&error)),
+            }
+        };
+        let is_refused = show.finish(failure.is_none())?;
+        let problem = show.problem();
+        if let Some(failure) = failure.or_else(|| is_refused.then(|| "out of memory".into())) {
+            return self.fail(out, title, &failure);
         }
         let problem = match problem {
             Some(problem) => problem,
@@ -75,8 +86,11 @@ impl Command {
 
     fn show_file(&self, out: &mut Screen, name: &OsStr) -> io::Result<u8> {
         let title = title(name);
-        match read(name) {
-            Ok(input) => self.show(out, &title, &input),
+        if name == "-" {
+            return self.show(out, &title, io::stdin().lock());
+        }
+        match File::open(name) {
+            Ok(file) => self.show(out, &title, file),
             Err(error) => self.fail(out, &title, &reason(&error)),
         }
     }
@@ -104,15 +118,6 @@ fn title(name: &OsStr) -> String {
         return "standard input".into();
     }
     name.to_string_lossy().into_owned()
-}
-
-fn read(name: &OsStr) -> io::Result<Vec<u8>> {
-    if name != "-" {
-        return std::fs::read(name);
-    }
-    let mut input = Vec::new();
-    io::stdin().read_to_end(&mut input)?;
-    Ok(input)
 }
 
 fn form(is_page: bool) -> Form {

@@ -1,6 +1,6 @@
 //! Pieces of texts in colours, as a page of HTML.
 use crate::pieces::{Class, Piece};
-use crate::text::{find_break, split_text, Problem, Text};
+use crate::text::{find_break, split_text, Problem};
 use std::io::{self, Write};
 
 /// The name of a class in the style sheet; empty when it has none.
@@ -37,35 +37,37 @@ pub fn end(out: &mut dyn Write) -> io::Result<()> {
     writeln!(out, "</body>\n</html>")
 }
 
-/// Writes a text under its name, each line in an element of its own, and its problem below it.
-pub fn write(
-    out: &mut dyn Write,
-    title: &str,
-    text: &Text,
-    pieces: &[Piece],
-    problem: Option<&Problem>,
-) -> io::Result<()> {
-    write!(out, "<h1>{}</h1>\n<pre tabindex=\"0\"><code>", escaped(title))?;
-    let message = problem.map_or(String::new(), |problem| escaped(&problem.message));
-    let mut lines = Lines { out, is_open: false };
-    lines.piece(Class::Other, text.mark, &message)?;
-    for piece in pieces {
-        lines.piece(piece.class, &text.bytes[piece.start..piece.end], &message)?;
-    }
-    lines.close()?;
+/// Writes what comes before a text: its name.
+pub fn begin_text(out: &mut dyn Write, title: &str) -> io::Result<()> {
+    write!(out, "<h1>{}</h1>\n<pre tabindex=\"0\"><code>", escaped(title))
+}
+
+/// Writes what comes after a text: its problem.
+pub fn end_text(out: &mut dyn Write, problem: Option<&Problem>) -> io::Result<()> {
     writeln!(out, "</code></pre>")?;
-    if let Some(Problem { line, column, .. }) = problem {
-        writeln!(out, "<p class=\"problem\">Line {line}, column {column}: {message}</p>")?;
+    if let Some(Problem { line, column, message, .. }) = problem {
+        writeln!(out, "<p class=\"problem\">Line {line}, column {column}: {}</p>", escaped(message))?;
     }
     Ok(())
 }
 
-struct Lines<'a> {
-    out: &'a mut dyn Write,
-    is_open: bool,
+/// A text whose lines are each in an element of its own.
+pub struct Lines<'a> {
+    pub out: &'a mut dyn Write,
+    /// Whether the element of the last line is open.
+    pub is_open: bool,
 }
 
 impl Lines<'_> {
+    /// Writes pieces of the text. The problem is that of the fault, if that is one of them.
+    pub fn write(&mut self, text: &[u8], pieces: &[Piece], problem: Option<&Problem>) -> io::Result<()> {
+        let message = problem.map_or(String::new(), |problem| escaped(&problem.message));
+        for piece in pieces {
+            self.piece(piece.class, &text[piece.start..piece.end], &message)?;
+        }
+        Ok(())
+    }
+
     fn piece(&mut self, class: Class, mut bytes: &[u8], message: &str) -> io::Result<()> {
         if class == Class::Fault {
             self.open()?;
@@ -103,7 +105,8 @@ impl Lines<'_> {
         Ok(())
     }
 
-    fn close(&mut self) -> io::Result<()> {
+    /// Ends the last line, if that is open.
+    pub fn close(&mut self) -> io::Result<()> {
         if self.is_open {
             write!(self.out, "</span>")?;
         }

@@ -1,6 +1,6 @@
 //! A text cut into pieces, each with what it is, by the exact places of the tokens.
-use crate::scanner::{Data, Fault, Scanner, Style, Token};
-use crate::text::{break_len, character_len, find_break, Problem};
+use crate::scanner::{Data, Fault, Fed, Feed, Style, Token};
+use crate::text::{break_len, character_len, find_break, Problem, Text};
 
 /// What a piece of the text is.
 #[derive(Clone, Copy, Debug, PartialEq, Eq)]
@@ -57,7 +57,7 @@ fn class_of(token: &Token, is_key: bool) -> Class {
 
 /// Tells which scalars are keys.
 #[derive(Default)]
-struct Keys {
+pub struct Keys {
     /// For each flow collection that is open, whether it is a mapping.
     flow: Vec<bool>,
     /// Whether a node that comes now is a key.
@@ -92,38 +92,51 @@ impl Keys {
     }
 }
 
-/// Cuts a text from its beginning on.
+/// Cuts what came of a text and is not shown yet, from its beginning on.
 pub struct Cutter<'a> {
     text: &'a [u8],
+    /// How many bytes of the text came before these.
+    shown: usize,
     at: usize,
-    keys: Keys,
+    keys: &'a mut Keys,
     pieces: Vec<Piece>,
 }
 
 impl<'a> Cutter<'a> {
-    pub fn new(text: &'a [u8]) -> Cutter<'a> {
-        Cutter { text, at: 0, keys: Keys::default(), pieces: Vec::new() }
+    /// A cutter of a text. The keys are those of the same text at each call.
+    pub fn new(text: &'a Text, keys: &'a mut Keys) -> Cutter<'a> {
+        Cutter { text: &text.left, shown: text.shown, at: 0, keys, pieces: Vec::new() }
     }
 
-    /// Cuts the text at the tokens of its input, and returns the fault after them.
-    pub fn tokens(&mut self, mut scanner: Scanner) -> Option<Fault> {
-        while let Some(batch) = scanner.next_batch() {
-            match batch {
-                Ok(tokens) => tokens.for_each(|token| self.token(&token)),
+    /// Cuts the text at the tokens that its input has by now, and returns the fault if that is next.
+    pub fn tokens(&mut self, feed: &mut Feed) -> Option<Fault> {
+        loop {
+            match feed.next_token() {
+                Ok(Fed::Token(token)) => self.token(&token),
+                Ok(Fed::More | Fed::Over) => return None,
                 Err(fault) => return Some(fault),
             }
         }
-        None
     }
 
-    /// The pieces in order, with what follows the tokens. Joined they are the text.
-    pub fn finish(mut self, problem: Option<&Problem>) -> Vec<Piece> {
-        self.gap(problem.map_or(self.text.len(), |problem| problem.at));
-        if let Some(problem) = problem {
-            self.piece(Class::Other, problem.at);
-            self.fault();
+    /// Cuts the text at the fault that follows the tokens.
+    pub fn problem(&mut self, problem: &Problem) {
+        let at = problem.at.saturating_sub(self.shown);
+        self.gap(at);
+        self.piece(Class::Other, at);
+        self.fault();
+    }
+
+    /// Cuts off what comes before an index, in which there is no token. Behind a fault comments are none.
+    pub fn rest(&mut self, end: usize, is_after_fault: bool) {
+        if !is_after_fault {
+            self.gap(end);
         }
-        self.piece(Class::Other, self.text.len());
+        self.piece(Class::Other, end);
+    }
+
+    /// The pieces in order. Joined they are the beginning of what came.
+    pub fn finish(self) -> Vec<Piece> {
         self.pieces
     }
 
@@ -132,8 +145,8 @@ impl<'a> Cutter<'a> {
         let is_key = self.keys.take(token);
         let (start, end) = (token.start.index as usize, token.end.index as usize);
         if start < end {
-            self.gap(start);
-            self.characters(class_of(token, is_key), end);
+            self.gap(start - self.shown);
+            self.characters(class_of(token, is_key), end - self.shown);
         }
     }
 

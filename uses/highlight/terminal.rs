@@ -1,6 +1,6 @@
 //! Pieces of a text for a terminal, in colours or without.
 use crate::pieces::{Class, Piece};
-use crate::text::{split_text, Text};
+use crate::text::split_text;
 use std::io::{self, Write};
 
 /// The parameters of the escape sequence that sets a class's colour.
@@ -22,13 +22,12 @@ fn colour(class: Class) -> &'static str {
     }
 }
 
-/// Writes a text with each piece in the colour of its class, or without colours. A colour is set anew on each line, so that a pager
+/// Writes pieces of a text, each in the colour of its class, or without colours. A colour is set anew on each line, so that a pager
 /// may show any of them first. A fault without a character colours the rest of its line.
-pub fn write(out: &mut dyn Write, text: &Text, pieces: &[Piece], has_colours: bool) -> io::Result<()> {
-    out.write_all(text.mark)?;
+pub fn write(out: &mut dyn Write, text: &[u8], pieces: &[Piece], has_colours: bool) -> io::Result<()> {
     let mut terminal = Terminal { out, has_colours };
     for piece in pieces {
-        let bytes = &text.bytes[piece.start..piece.end];
+        let bytes = &text[piece.start..piece.end];
         let colour = colour(piece.class);
         if bytes.is_empty() && has_colours {
             write!(terminal.out, "\x1b[{colour}m\x1b[K\x1b[0m")?;
@@ -85,6 +84,9 @@ impl Terminal<'_> {
 
     /// Writes each byte as `\x` and two digits, in the colour and in reverse.
     fn escaped(&mut self, colour: &str, bytes: &[u8]) -> io::Result<()> {
+        if bytes.is_empty() {
+            return Ok(());
+        }
         let digits: String = bytes.iter().map(|byte| format!("\\x{byte:02x}")).collect();
         let reverse = if colour.is_empty() { "7".to_string() } else { format!("{colour};7") };
         self.coloured(&reverse, digits.as_bytes())

@@ -1,6 +1,5 @@
 //! The text of an input as it is shown, and where its fault is.
 use crate::scanner::Fault;
-use std::borrow::Cow;
 
 const UTF8_MARK: &[u8] = b"\xEF\xBB\xBF";
 
@@ -12,50 +11,56 @@ pub struct Problem {
     pub message: String,
 }
 
-/// The text whose bytes the scanner's marks count. An input in UTF-8 is shown as it is, whatever bytes it has; one in UTF-16 is
-/// shown in UTF-8, with U+FFFD for what is no character.
-pub struct Text<'a> {
-    /// The byte order mark of UTF-8, or nothing. The scanner's marks do not count it.
-    pub mark: &'a [u8],
-    pub bytes: Cow<'a, [u8]>,
-}
-
-impl Text<'_> {
-    /// The text of an input.
-    pub fn new(input: &[u8]) -> Text<'_> {
-        if is_utf16(input) {
-            return Text { mark: &input[..0], bytes: Cow::Owned(utf16(&input[2..], input[0] == 0xFE)) };
-        }
-        let (mark, bytes) = input.split_at(if input.starts_with(UTF8_MARK) { 3 } else { 0 });
-        Text { mark, bytes: Cow::Borrowed(bytes) }
-    }
-
-    /// The problem of a fault that the scanner found in the input of this text. That of a reader fault is at the end of the
-    /// text before it.
-    pub fn problem(&self, input: &[u8], fault: &Fault) -> Problem {
-        match fault {
+impl Problem {
+    /// The problem of a fault, or `None` if memory was refused. That of a reader fault is at the end of the text before it.
+    pub fn of(fault: &Fault) -> Option<Problem> {
+        let (mark, message) = match fault {
             Fault::Scanner { problem, mark, context, context_mark } => {
                 let start = format!("that starts at {}:{}", context_mark.line + 1, context_mark.column + 1);
                 let context = context.as_ref().map_or(String::new(), |context| format!(", {context} {start}"));
-                let message = format!("{problem}{context}");
-                Problem { at: mark.index as usize, line: mark.line + 1, column: mark.column + 1, message }
+                (mark, format!("{problem}{context}"))
             }
-            Fault::Reader { problem, offset, .. } => {
-                let front = self.front_len(input, *offset as usize);
-                let (line, column) = place(&self.bytes[..front]);
-                let message = format!("{problem} (byte {} of the file)", offset + 1);
-                Problem { at: front, line, column, message }
+            Fault::Reader { problem, offset, mark, .. } => {
+                (mark, format!("{problem} (byte {} of the file)", offset + 1))
             }
-            Fault::Memory => Problem { at: 0, line: 1, column: 1, message: fault.to_string() },
-        }
+            Fault::Memory => return None,
+        };
+        Some(Problem { at: mark.index as usize, line: mark.line + 1, column: mark.column + 1, message })
+    }
+}
+
+/// What came of the text whose bytes the scanner's marks count, and is not shown yet. An input in UTF-8 is shown as it is, whatever
+/// bytes it has; one in UTF-16 is shown in UTF-8, with U+FFFD for what is no character.
+#[derive(Default)]
+pub struct Text {
+    /// The bytes that are not shown yet. Before `begin` they are those of the input.
+    pub left: Vec<u8>,
+    /// How many bytes of the text came before these.
+    pub shown: usize,
+}
+
+impl Text {
+    /// Whether it may begin, though more of the input may come.
+    pub fn is_known(&self) -> bool {
+        self.left.len() >= UTF8_MARK.len() && !is_utf16(&self.left)
     }
 
-    /// How many bytes of the text come before the character that an offset of its input is in.
-    fn front_len(&self, input: &[u8], offset: usize) -> usize {
-        if is_utf16(input) {
-            return utf16_front_len(input, offset);
+    /// Begins the text: takes the byte order mark of UTF-8 off and returns it, or decodes UTF-16, all of which has to be there.
+    /// The scanner's marks do not count a byte order mark.
+    pub fn begin(&mut self) -> &'static [u8] {
+        if is_utf16(&self.left) {
+            self.left = utf16(&self.left[2..], self.left[0] == 0xFE);
+        } else if self.left.starts_with(UTF8_MARK) {
+            self.left.drain(..UTF8_MARK.len());
+            return UTF8_MARK;
         }
-        utf8_len(&self.bytes[..offset - self.mark.len()])
+        b""
+    }
+
+    /// Lets go of bytes that are shown.
+    pub fn show(&mut self, len: usize) {
+        self.left.drain(..len);
+        self.shown += len;
     }
 }
 
@@ -76,14 +81,6 @@ fn utf8_len(text: &[u8]) -> usize {
     std::str::from_utf8(text).map_or_else(|error| error.valid_up_to(), str::len)
 }
 
-/// How many bytes of UTF-8 the text of an input in UTF-16 has before the character that an offset is in.
-fn utf16_front_len(input: &[u8], offset: usize) -> usize {
-    let is_big = input[0] == 0xFE;
-    let is_half = matches!(input[if is_big { offset - 2 } else { offset - 1 }], 0xD8..=0xDB);
-    let start = if is_half && offset < input.len() { offset - 2 } else { offset };
-    utf16(&input[2..start], is_big).len()
-}
-
 /// Decodes UTF-16 without its byte order mark.
 fn utf16(input: &[u8], is_big: bool) -> Vec<u8> {
     let units = input.chunks(2).map(|pair| match pair {
@@ -92,16 +89,6 @@ fn utf16(input: &[u8], is_big: bool) -> Vec<u8> {
         _ => 0xDC00, // half a unit, which is no character either
     });
     char::decode_utf16(units).map(|unit| unit.unwrap_or(char::REPLACEMENT_CHARACTER)).collect::<String>().into_bytes()
-}
-
-/// The line and the column after a text, from 1.
-fn place(mut text: &[u8]) -> (u64, u64) {
-    let mut line = 1;
-    while let Some((at, len)) = find_break(text) {
-        text = &text[at + len..];
-        line += 1;
-    }
-    (line, 1 + String::from_utf8_lossy(text).chars().count() as u64)
 }
 
 /// The length of the line break that a text begins with, or 0 when it begins with none.

@@ -1,17 +1,21 @@
 /* json [OPTION ..] [FILE]: lists the tokens of a YAML file, each as a line of JSON. Without a file, or for the file -, it reads
- * standard input. docs/COMMANDS.md has the members of the lines. The exit status is 0; 1 when there is a fault, which is the last
- * line; 2 when the words are wrong; 3 when reading or writing fails, or memory is refused. */
+ * standard input. It writes the line of a token as soon as no more of the input can change it. docs/COMMANDS.md has the members of
+ * the lines. The exit status is 0; 1 when there is a fault, which is the last line; 2 when the words are wrong; 3 when reading or
+ * writing fails, or memory is refused. */
 #include "bogzhami.h"
 
 #include <errno.h>
+#include <fcntl.h>
 #include <getopt.h>
 #include <inttypes.h>
 #include <stdbool.h>
 #include <stdio.h>
 #include <stdlib.h>
 #include <string.h>
+#include <unistd.h>
 
-enum { BATCH = 256, FIRST_TEXTS = 1 << 14, MOST_KEY_LIMIT = 65536 };
+enum { BATCH = 256, FIRST_TEXTS = 1 << 14, FIRST_ROOM = 1 << 16, MOST_KEY_LIMIT = 65536 };
+enum { SHORT = 1 << 20, TIMES = 256, MOST_CREDIT = 1 << 26 }; /* of what is scanned again */
 
 static const char *program = "json"; /* what it was called by */
 
@@ -19,6 +23,17 @@ static const char *program = "json"; /* what it was called by */
 struct settings {
     uint32_t encoding, key_limit;
     const char *name; /* of the file; - is standard input */
+};
+
+/* All bytes of a file that came. They move when more come. */
+struct window {
+    int file;
+    uint8_t *bytes;
+    size_t len, room;
+    size_t given;     /* how many of them are in front of the end of the last token that was written */
+    size_t credit;    /* how many may be scanned again */
+    bool is_last;     /* whether no more will come */
+    const char *lost; /* why no more could be read, or NULL */
 };
 
 /* Rooms for a batch of tokens, which are used again for the next one. */
@@ -163,6 +178,63 @@ static void write_fault(const struct bogzhami_answer *a, const uint8_t *texts) {
     fputs("}\n", stdout);
 }
 
+/* Reading. */
+
+/* Sees that the window has room for more. It grows by its size, so that moving it takes time in proportion to the input. */
+static bool make_room(struct window *w) {
+    if (w->len < w->room)
+        return true;
+    size_t room = w->room ? 2 * w->room : FIRST_ROOM;
+    uint8_t *bytes = realloc(w->bytes, room);
+    if (!bytes)
+        return false;
+    w->bytes = bytes;
+    w->room = room;
+    return true;
+}
+
+/* Counts bytes that came. */
+static void add(struct window *w, size_t count) {
+    w->len += count;
+    w->credit += TIMES * count;
+    if (w->credit > MOST_CREDIT)
+        w->credit = MOST_CREDIT;
+}
+
+/* Reads what is there, and waits if nothing is. */
+static void read_some(struct window *w) {
+    ssize_t count;
+    if (!make_room(w)) {
+        w->lost = "out of memory";
+        return;
+    }
+    do
+        count = read(w->file, w->bytes + w->len, w->room - w->len);
+    while (count < 0 && errno == EINTR);
+    w->is_last = count == 0;
+    if (count < 0)
+        w->lost = strerror(errno);
+    else
+        add(w, (size_t)count);
+}
+
+/* Whether scanning is worth its time, since what follows the last token that was written is scanned again. If that is long, it has
+ * to have grown by a quarter since there were `before` bytes of it. If it is short, each byte that came allows TIMES bytes to be
+ * scanned again, so that a long lexeme which comes byte after byte is not scanned again for each of them. */
+static bool is_due(const struct window *w, size_t before) {
+    size_t again = w->len - w->given;
+    return again < SHORT ? again <= w->credit : again - before >= before / 4;
+}
+
+/* Reads until scanning is worth its time, or until reading ends. UTF-16 is wanted whole. */
+static void read_on(struct window *w, bool wants_all) {
+    size_t before = w->len - w->given;
+    w->credit -= before < w->credit ? before : w->credit;
+    do
+        read_some(w);
+    while (!w->is_last && !w->lost && (wants_all || !is_due(w, before)));
+}
+
 /* Scanning. */
 
 /* Makes the room for texts anew, of a length; false if memory is refused, and then there is none. */
@@ -174,9 +246,11 @@ static bool make_texts(struct rooms *r, uint64_t len) {
 }
 
 /* Gets the next batch, with more room for texts if it needs that. */
-static uint32_t next_batch(struct bogzhami_handle *handle, const uint8_t *input, size_t len, struct rooms *r) {
+static uint32_t next_batch(struct bogzhami_handle *handle, const struct window *w, struct rooms *r) {
     for (;;) {
-        uint32_t status = bogzhami_next(handle, input, len, r->tokens, BATCH, r->texts, r->texts_len, &r->answer);
+        uint64_t needed_from; /* the window has all bytes that came, and so those that are needed */
+        uint32_t status = bogzhami_next_piece(handle, 0, w->bytes, w->len, w->is_last, r->tokens, BATCH, r->texts, r->texts_len,
+                                              &r->answer, &needed_from);
         if (status != BOGZHAMI_NO_ROOM)
             return status;
         if (!make_texts(r, r->answer.text_len))
@@ -184,70 +258,68 @@ static uint32_t next_batch(struct bogzhami_handle *handle, const uint8_t *input,
     }
 }
 
-/* Writes all tokens of a scanner and the fault after them, and returns the status after that. */
-static uint32_t write_all(struct bogzhami_handle *handle, const uint8_t *input, size_t len, struct rooms *r) {
-    uint32_t status = make_texts(r, FIRST_TEXTS) ? BOGZHAMI_DONE : BOGZHAMI_NO_MEMORY;
+/* Writes the tokens that no more bytes can change, and the fault if it is next, and returns the status after that. */
+static uint32_t write_settled(struct bogzhami_handle *handle, struct window *w, struct rooms *r) {
+    uint32_t status = BOGZHAMI_DONE;
     while (status == BOGZHAMI_DONE && !ferror(stdout)) {
-        status = next_batch(handle, input, len, r);
-        for (uint64_t i = 0; status != BOGZHAMI_NO_MEMORY && i < r->answer.token_count; i++)
+        status = next_batch(handle, w, r);
+        uint64_t count = status == BOGZHAMI_NO_MEMORY ? 0 : r->answer.token_count;
+        for (uint64_t i = 0; i < count; i++)
             write_token(&r->tokens[i], r->texts);
+        if (count)
+            w->given = (size_t)r->tokens[count - 1].end_mark.index;
     }
     if (status == BOGZHAMI_FAULT)
         write_fault(&r->answer, r->texts);
     return status;
 }
 
-/* Lists an input, and returns the exit status. */
-static int list(const uint8_t *input, size_t len, const struct settings *s) {
-    static struct rooms rooms;
-    struct bogzhami_handle handle = BOGZHAMI_CLOSED;
-    uint32_t status = bogzhami_open(&handle, input, len, s->encoding, s->key_limit);
-    if (status == BOGZHAMI_DONE)
-        status = write_all(&handle, input, len, &rooms);
-    int written = flush();
-    bogzhami_close(&handle);
-    free(rooms.texts);
-    if (written)
-        return written;
-    if (status == BOGZHAMI_OVER)
-        return 0;
-    return status == BOGZHAMI_FAULT ? 1 : fail(s->name, bogzhami_status_text(status));
+/* Writes all tokens of a file, and returns the exit status. What is settled is flushed before more is waited for. */
+static int write_all(struct bogzhami_handle *handle, struct window *w, struct rooms *r, const char *name) {
+    for (;;) {
+        uint32_t status = write_settled(handle, w, r);
+        int written = flush();
+        if (written || status == BOGZHAMI_OVER)
+            return written;
+        if (status == BOGZHAMI_FAULT)
+            return 1;
+        if (status != BOGZHAMI_MORE && status != BOGZHAMI_WHOLE)
+            return fail(name, bogzhami_status_text(status));
+        if (w->lost)
+            return fail(name, w->lost);
+        read_on(w, status == BOGZHAMI_WHOLE);
+    }
 }
 
-/* Reads a file to its end. NULL if memory is refused, or if reading fails, which ferror then says. */
-static uint8_t *read_all(FILE *from, size_t *len) {
-    size_t room = 1 << 16;
-    uint8_t *bytes = malloc(room);
-    *len = 0;
-    while (bytes) {
-        *len += fread(bytes + *len, 1, room - *len, from);
-        if (*len < room && !ferror(from))
-            return bytes;
-        uint8_t *more = *len < room ? NULL : realloc(bytes, room *= 2);
-        if (!more)
-            free(bytes);
-        bytes = more;
-    }
-    return NULL;
+/* Lists a file that is open, and returns the exit status. */
+static int list(int file, const struct settings *s) {
+    static struct rooms rooms;
+    struct window window = {.file = file, .credit = MOST_CREDIT};
+    struct bogzhami_handle handle = BOGZHAMI_CLOSED;
+    uint32_t opened = bogzhami_open_pieces(&handle, s->encoding, s->key_limit);
+    if (opened == BOGZHAMI_DONE && !make_texts(&rooms, FIRST_TEXTS))
+        opened = BOGZHAMI_NO_MEMORY;
+    int status;
+    if (opened == BOGZHAMI_DONE)
+        status = write_all(&handle, &window, &rooms, s->name);
+    else
+        status = fail(s->name, bogzhami_status_text(opened));
+    bogzhami_close(&handle);
+    free(rooms.texts);
+    free(window.bytes);
+    return status;
 }
 
 static int list_file(struct settings *s) {
-    FILE *from = strcmp(s->name, "-") ? fopen(s->name, "rb") : stdin;
-    if (!from)
-        return fail(s->name, strerror(errno));
-    if (from == stdin)
+    if (!strcmp(s->name, "-")) {
         s->name = "standard input";
-    size_t len;
-    errno = 0;
-    uint8_t *input = read_all(from, &len);
-    int reason = errno, status;
-    if (input)
-        status = list(input, len, s);
-    else
-        status = fail(s->name, ferror(from) ? strerror(reason) : "out of memory");
-    free(input);
-    if (from != stdin)
-        fclose(from);
+        return list(STDIN_FILENO, s);
+    }
+    int file = open(s->name, O_RDONLY);
+    if (file < 0)
+        return fail(s->name, strerror(errno));
+    int status = list(file, s);
+    close(file);
     return status;
 }
 

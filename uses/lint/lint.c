@@ -3,15 +3,16 @@
  * is a message; 2 when the words are wrong; 3 when a file or a folder can not be read, the output can not be written or memory
  * is refused.
  *
- * A file is scanned in batches, into rooms that are used again. Of the tokens only the keys, the anchors and aliases, and
- * the lines that hold a key are kept. Each list is sorted, so that what belongs together is side by side. The time is that
- * of sorting, for every input. */
+ * A file is scanned while it is read, in batches, into rooms that are used again. Of the tokens only the keys, the anchors and
+ * aliases, and the lines that hold a key are kept, up to the next document: then its messages are printed. Each list is sorted,
+ * so that what belongs together is side by side. The time is that of sorting, for every input. */
 #define _POSIX_C_SOURCE 200809L /* for lstat */
 
 #include "bogzhami.h"
 
 #include <dirent.h>
 #include <errno.h>
+#include <fcntl.h>
 #include <getopt.h>
 #include <inttypes.h>
 #include <stdbool.h>
@@ -19,11 +20,13 @@
 #include <stdlib.h>
 #include <string.h>
 #include <sys/stat.h>
+#include <unistd.h>
 
 #define DEFAULT_WIDTH 80
 #define SHOWN_NAME 60 /* bytes of a name that a message shows */
 
-enum { BATCH = 256, FIRST_TEXTS = 1 << 14, BLOCK = 1 << 16 };
+enum { BATCH = 256, FIRST_TEXTS = 1 << 14, FIRST_ROOM = 1 << 16, BLOCK = 1 << 16 };
+enum { SHORT = 1 << 20, TIMES = 256, MOST_CREDIT = 1 << 26 }; /* of what is scanned again */
 
 /* The exit status when reading or writing fails, or memory is refused. */
 enum { LOST = 3 };
@@ -69,8 +72,16 @@ struct level {
 
 /* All that is known of one file. What is allocated is freed by free_file. */
 struct file {
-    uint8_t *input;
-    size_t input_len;
+    const char *name;
+    uint64_t width;
+    int from;         /* what it is read from */
+    uint8_t *input;   /* all bytes that came; they move when more come */
+    size_t input_len, input_room;
+    size_t given;     /* how many of them are in front of the end of the last token */
+    size_t credit;    /* how many may be scanned again */
+    bool is_last;     /* whether no more will come */
+    const char *lost; /* why no more could be read, or NULL */
+    bool is_utf16;
     struct bogzhami_handle scanner;
     struct bogzhami_token tokens[BATCH]; /* the rooms for a batch */
     uint8_t *texts;
@@ -79,6 +90,8 @@ struct file {
     uint8_t *decoded;              /* the text of an input in UTF-16, otherwise NULL */
     const uint8_t *text;           /* in UTF-8, without the byte order mark, up to what is no text */
     size_t text_len;
+    size_t line_at;       /* where the first line begins in it that was not looked at */
+    uint64_t line;        /* the number of that line */
     struct level *levels; /* those that are open, the innermost last */
     size_t depth, level_room;
     uint64_t level_count; /* all that were ever open */
@@ -91,6 +104,7 @@ struct file {
     size_t key_line_count, key_line_room;
     struct message *messages;
     size_t message_count, message_room;
+    bool has_told;      /* whether there was a message */
     bool out_of_memory; /* something found no room */
 };
 
@@ -150,21 +164,61 @@ static const uint8_t *kept_name(struct file *f, const uint8_t *name, size_t len)
     return copy;
 }
 
-/* Reading and scanning. A function that returns bool returns false when memory is refused. */
+/* Reading. A function that returns bool returns false when memory is refused. */
 
-static bool read_all(struct file *f, FILE *from) {
-    size_t room = 1 << 16;
-    f->input = malloc(room);
-    while (f->input) {
-        f->input_len += fread(f->input + f->input_len, 1, room - f->input_len, from);
-        if (f->input_len < room)
-            return true;
-        uint8_t *more = realloc(f->input, room *= 2);
-        if (!more)
-            return false;
-        f->input = more;
+/* Sees that there is room for more of the input. It grows by its size, so that moving it takes time in proportion to the input. */
+static bool make_room(struct file *f) {
+    if (f->input_len < f->input_room)
+        return true;
+    size_t room = f->input_room ? 2 * f->input_room : FIRST_ROOM;
+    uint8_t *input = realloc(f->input, room);
+    if (!input)
+        return false;
+    f->input = input;
+    f->input_room = room;
+    return true;
+}
+
+/* Counts bytes that came. */
+static void add_input(struct file *f, size_t count) {
+    f->input_len += count;
+    f->credit += TIMES * count;
+    if (f->credit > MOST_CREDIT)
+        f->credit = MOST_CREDIT;
+}
+
+/* Reads what is there, and waits if nothing is. */
+static void read_some(struct file *f) {
+    ssize_t count;
+    if (!make_room(f)) {
+        f->lost = "out of memory";
+        return;
     }
-    return false;
+    do
+        count = read(f->from, f->input + f->input_len, f->input_room - f->input_len);
+    while (count < 0 && errno == EINTR);
+    f->is_last = count == 0;
+    if (count < 0)
+        f->lost = strerror(errno);
+    else
+        add_input(f, (size_t)count);
+}
+
+/* Whether scanning is worth its time, since what follows the last token is scanned again. If that is long, it has to have grown
+ * by a quarter since there were `before` bytes of it. If it is short, each byte that came allows TIMES bytes to be scanned again,
+ * so that a long lexeme which comes byte after byte is not scanned again for each of them. */
+static bool is_due(const struct file *f, size_t before) {
+    size_t again = f->input_len - f->given;
+    return again < SHORT ? again <= f->credit : again - before >= before / 4;
+}
+
+/* Reads until scanning is worth its time, or until reading ends. */
+static void read_on(struct file *f, bool wants_all) {
+    size_t before = f->input_len - f->given;
+    f->credit -= before < f->credit ? before : f->credit;
+    do
+        read_some(f);
+    while (!f->is_last && !f->lost && (wants_all || !is_due(f, before)));
 }
 
 /* Writes a character in UTF-8, and returns how many bytes it has. */
@@ -210,7 +264,7 @@ static size_t whole_characters(const uint8_t *text, size_t len) {
     return wanted > back ? len - back : len;
 }
 
-/* Finds the text of the input, up to what the scanner's reader refused. */
+/* Finds the text of what came, up to what the scanner's reader refused. UTF-16 is all there. */
 static bool find_text(struct file *f) {
     bool refused = f->answer.error == BOGZHAMI_READER_ERROR;
     size_t len = refused ? (size_t)f->answer.problem_offset : f->input_len;
@@ -337,45 +391,6 @@ static void take_token(struct file *f, const struct bogzhami_token *t) {
     }
 }
 
-static bool take_batch(struct file *f) {
-    for (uint64_t i = 0; i < f->answer.token_count && !f->out_of_memory; i++)
-        take_token(f, &f->tokens[i]);
-    return !f->out_of_memory;
-}
-
-/* Makes the room for texts anew. What was in it is not needed any more. */
-static bool make_texts(struct file *f, uint64_t len) {
-    free(f->texts);
-    f->texts = calloc((size_t)len, 1);
-    f->texts_len = (size_t)len;
-    return f->texts != NULL;
-}
-
-/* Gets the next batch, with more room for texts if it needs that. */
-static uint32_t next_batch(struct file *f) {
-    for (;;) {
-        uint32_t status = bogzhami_next(&f->scanner, f->input, f->input_len, f->tokens, BATCH, f->texts, f->texts_len,
-                                        &f->answer);
-        if (status != BOGZHAMI_NO_ROOM)
-            return status;
-        if (!make_texts(f, f->answer.text_len))
-            return BOGZHAMI_NO_MEMORY;
-    }
-}
-
-/* Scans the input to its end or its fault, and takes all tokens. */
-static bool scan(struct file *f) {
-    uint32_t status = bogzhami_open(&f->scanner, f->input, f->input_len, BOGZHAMI_ANY_ENCODING, 1024);
-    if (status != BOGZHAMI_DONE || !make_texts(f, FIRST_TEXTS))
-        return false;
-    while (status == BOGZHAMI_DONE) {
-        status = next_batch(f);
-        if (status == BOGZHAMI_NO_MEMORY || !take_batch(f))
-            return false;
-    }
-    return f->answer.error != BOGZHAMI_MEMORY_ERROR;
-}
-
 /* Messages. */
 
 static void add(struct file *f, struct message m) {
@@ -487,40 +502,55 @@ static void check_key_line(struct file *f, uint64_t number, const uint8_t *line,
         add(f, (struct message){number, count_characters(line, (size_t)(tab - line)), TAB, NULL, 0, 0});
 }
 
-/* Looks at every line of the text. A reader fault is at its end. */
-static void check_lines(struct file *f, uint64_t width) {
-    const uint8_t *line = f->text, *end = f->text + f->text_len;
-    for (uint64_t number = 0, key = 0;; number++) {
+/* Looks at the lines of the text that come next: those before a line, or all of them. A reader fault is at its end. */
+static void check_lines(struct file *f, uint64_t before) {
+    const uint8_t *line = f->text + f->line_at, *end = f->text + f->text_len;
+    for (uint64_t key = 0; f->line < before; f->line++) {
         size_t len = 0, broken = 0;
         while (line + len < end && !(broken = break_len(line + len, (size_t)(end - line) - len)))
             len++;
         uint64_t characters = count_characters(line, len);
-        if (characters > width)
-            add(f, (struct message){number, width, LONG_LINE, NULL, 0, characters});
-        if (key < f->key_line_count && f->key_lines[key] == number) {
-            check_key_line(f, number, line, len);
+        if (characters > f->width)
+            add(f, (struct message){f->line, f->width, LONG_LINE, NULL, 0, characters});
+        if (key < f->key_line_count && f->key_lines[key] == f->line) {
+            check_key_line(f, f->line, line, len);
             key++;
         }
         if (!broken && f->answer.error == BOGZHAMI_READER_ERROR)
-            add(f, (struct message){number, characters, FAULT, NULL, 0, 0});
+            add(f, (struct message){f->line, characters, FAULT, NULL, 0, 0});
         if (!broken)
             return;
         line += len + broken;
+        f->line_at = (size_t)(line - f->text);
     }
 }
 
-static bool check(struct file *f, uint64_t width) {
+/* Looks at what is kept, and at the lines before a line, or at all of them. */
+static bool check(struct file *f, uint64_t before) {
     if (!find_text(f))
         return false;
     check_keys(f);
     check_names(f);
-    check_lines(f, width);
-    if (f->answer.error == BOGZHAMI_SCANNER_ERROR)
-        add(f, (struct message){f->answer.problem_mark.line, f->answer.problem_mark.column, FAULT, NULL, 0, 0});
+    check_lines(f, before);
     return !f->out_of_memory;
 }
 
 /* Output. */
+
+static const char *program = "lint"; /* what it was called by */
+
+static int fail(const char *name, const char *problem) {
+    fflush(stdout);
+    fprintf(stderr, "%s: %s: %s\n", program, name, problem);
+    return LOST;
+}
+
+/* Sees that all is written, and returns the exit status that this asks for. A pipe that no one reads any more is not told. */
+static int flush(void) {
+    if (!fflush(stdout) && !ferror(stdout))
+        return 0;
+    return errno == EPIPE ? LOST : fail("standard output", strerror(errno));
+}
 
 static int compare_messages(const void *left, const void *right) {
     const struct message *a = left, *b = right;
@@ -561,8 +591,8 @@ static void print_fault(const struct file *f) {
     printf(" that starts at %" PRIu64 ":%" PRIu64, a->context_mark.line + 1, a->context_mark.column + 1);
 }
 
-static void print_message(const struct file *f, const char *name, const struct message *m, uint64_t width) {
-    printf("%s:%" PRIu64 ":%" PRIu64 ": ", name, m->line + 1, m->column + 1);
+static void print_message(const struct file *f, const struct message *m) {
+    printf("%s:%" PRIu64 ":%" PRIu64 ": ", f->name, m->line + 1, m->column + 1);
     switch (m->kind) {
     case FAULT:
         print_fault(f);
@@ -587,60 +617,123 @@ static void print_message(const struct file *f, const char *name, const struct m
         print_name(m->name, m->name_len);
         break;
     case LONG_LINE:
-        printf("line of %" PRIu64 " characters, more than %" PRIu64, m->number, width);
+        printf("line of %" PRIu64 " characters, more than %" PRIu64, m->number, f->width);
         break;
     }
     putchar('\n');
 }
 
-static const char *program = "lint"; /* what it was called by */
-
-static int fail(const char *name, const char *problem) {
-    fflush(stdout);
-    fprintf(stderr, "%s: %s: %s\n", program, name, problem);
-    return LOST;
-}
-
-/* Sees that all is written, and returns the exit status that this asks for. A pipe that no one reads any more is not told. */
-static int flush(void) {
-    if (!fflush(stdout) && !ferror(stdout))
-        return 0;
-    return errno == EPIPE ? LOST : fail("standard output", strerror(errno));
-}
-
-static int lint_read(struct file *f, const char *name, uint64_t width) {
-    if (!scan(f) || !check(f, width))
-        return fail(name, "out of memory");
+/* Prints the messages, and keeps none of what they are about. */
+static void print_messages(struct file *f) {
     if (f->message_count)
         qsort(f->messages, f->message_count, sizeof *f->messages, compare_messages);
     for (size_t i = 0; i < f->message_count && !ferror(stdout); i++)
-        print_message(f, name, &f->messages[i], width);
-    int status = flush();
-    return status || !f->message_count ? status : 1;
+        print_message(f, &f->messages[i]);
+    f->has_told = f->has_told || f->message_count;
+    f->message_count = f->keys.count = f->names.count = f->key_line_count = 0;
+    free_blocks(f->block);
+    f->block = NULL;
+}
+
+/* Scanning. */
+
+static bool is_marker(const struct bogzhami_token *t) {
+    return t->token_type == BOGZHAMI_DOCUMENT_START_TOKEN || t->token_type == BOGZHAMI_DOCUMENT_END_TOKEN;
+}
+
+/* Takes the tokens of a batch. At a marker all is known of the document before it. UTF-16 is decoded once, at its end. */
+static bool take_batch(struct file *f) {
+    for (uint64_t i = 0; i < f->answer.token_count && !f->out_of_memory; i++) {
+        const struct bogzhami_token *t = &f->tokens[i];
+        take_token(f, t);
+        f->given = (size_t)t->end_mark.index;
+        if (is_marker(t) && !f->is_utf16) {
+            if (!check(f, t->start_mark.line))
+                return false;
+            print_messages(f);
+        }
+    }
+    return !f->out_of_memory;
+}
+
+/* Makes the room for texts anew. What was in it is not needed any more. */
+static bool make_texts(struct file *f, uint64_t len) {
+    free(f->texts);
+    f->texts = calloc((size_t)len, 1);
+    f->texts_len = (size_t)len;
+    return f->texts != NULL;
+}
+
+/* Gets the next batch, with more room for texts if it needs that. */
+static uint32_t next_batch(struct file *f) {
+    for (;;) {
+        uint64_t needed_from; /* the window has all bytes that came, and so those that are needed */
+        uint32_t status = bogzhami_next_piece(&f->scanner, 0, f->input, f->input_len, f->is_last, f->tokens, BATCH, f->texts,
+                                              f->texts_len, &f->answer, &needed_from);
+        if (status != BOGZHAMI_NO_ROOM)
+            return status;
+        if (!make_texts(f, f->answer.text_len))
+            return BOGZHAMI_NO_MEMORY;
+    }
+}
+
+/* Reads and scans the input to its end or its fault, and takes all tokens. What is printed is written before more is waited for.
+ * It ends early if reading or writing fails. */
+static bool scan(struct file *f) {
+    uint32_t status = bogzhami_open_pieces(&f->scanner, BOGZHAMI_ANY_ENCODING, 1024);
+    if (status != BOGZHAMI_DONE || !make_texts(f, FIRST_TEXTS))
+        return false;
+    while (status != BOGZHAMI_FAULT && status != BOGZHAMI_OVER && !ferror(stdout)) {
+        status = next_batch(f);
+        if (status == BOGZHAMI_NO_MEMORY || !take_batch(f))
+            return false;
+        if (status != BOGZHAMI_MORE && status != BOGZHAMI_WHOLE)
+            continue;
+        if (f->lost || fflush(stdout))
+            return true;
+        f->is_utf16 = status == BOGZHAMI_WHOLE;
+        read_on(f, f->is_utf16);
+    }
+    return f->answer.error != BOGZHAMI_MEMORY_ERROR;
+}
+
+/* Looks at the rest of the input. Behind a fault of the scanner that is lines; behind one of the reader it is nothing. */
+static bool check_rest(struct file *f) {
+    bool has_lines = f->answer.error == BOGZHAMI_SCANNER_ERROR;
+    if (has_lines)
+        add(f, (struct message){f->answer.problem_mark.line, f->answer.problem_mark.column, FAULT, NULL, 0, 0});
+    while (has_lines && !f->is_last && !f->lost && !fflush(stdout))
+        read_some(f);
+    return f->lost || check(f, UINT64_MAX);
 }
 
 /* Prints the messages of one file that is open, and returns the exit status that they ask for. */
-static int lint_open(FILE *from, const char *name, uint64_t width) {
-    struct file f = {.scanner = BOGZHAMI_CLOSED};
-    errno = 0;
-    bool has_room = read_all(&f, from);
-    int status, reason = errno;
-    if (!has_room)
-        status = fail(name, "out of memory");
-    else if (ferror(from))
-        status = fail(name, strerror(reason));
-    else
-        status = lint_read(&f, name, width);
+static int lint_read(struct file *f) {
+    if (!scan(f))
+        return fail(f->name, "out of memory");
+    if (!ferror(stdout) && !check_rest(f))
+        return fail(f->name, "out of memory");
+    if (!f->lost)
+        print_messages(f);
+    int status = flush();
+    if (status || !f->lost)
+        return status ? status : f->has_told;
+    return fail(f->name, f->lost);
+}
+
+static int lint_open(int from, const char *name, uint64_t width) {
+    struct file f = {.name = name, .width = width, .from = from, .credit = MOST_CREDIT, .scanner = BOGZHAMI_CLOSED};
+    int status = lint_read(&f);
     free_file(&f);
     return status;
 }
 
 static int lint_file(const char *name, uint64_t width) {
-    FILE *from = fopen(name, "rb");
-    if (!from)
+    int from = open(name, O_RDONLY);
+    if (from < 0)
         return fail(name, strerror(errno));
     int status = lint_open(from, name, width);
-    fclose(from);
+    close(from);
     return status;
 }
 
@@ -750,7 +843,7 @@ static bool is_folder(const char *name) {
 
 static int lint(const char *name, uint64_t width) {
     if (!strcmp(name, "-"))
-        return lint_open(stdin, "standard input", width);
+        return lint_open(STDIN_FILENO, "standard input", width);
     return is_folder(name) ? lint_folder(name, width) : lint_file(name, width);
 }
 
