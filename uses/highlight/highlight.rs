@@ -29,7 +29,7 @@ const ROOM: usize = 1 << 16;
 
 /// How texts are shown.
 #[derive(Clone, Copy, PartialEq, Eq)]
-enum Form {
+pub enum Form {
     Page,
     Colours,
     /// In the terminal, without colours.
