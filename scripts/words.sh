@@ -44,6 +44,7 @@ print_commands() {
   cat << END
   scan ENC          lists all tokens, one a line
   scan ENC LIMIT    the same, with a key limit of 1 to 65536 bytes instead of 1024
+  follow ENC        lists each token as soon as no more input can change it
   calls ENC WORD    lists the answers to calls; WORD is made of the letters s (scan), p (peek) and k (skip)
   decode ENC        says what text the input is
   --help            prints this
@@ -58,7 +59,7 @@ END
 check_command() {
   [ $# -gt 0 ] || refuse_words "a command is missing"
   case $1 in
-    scan | calls | decode) ;;
+    scan | follow | calls | decode) ;;
     *) refuse_words "there is no command '$1'$(hint_at_input "$1")" ;;
   esac
   [ $# -gt 1 ] || refuse_words "$1 needs an encoding"
@@ -81,7 +82,7 @@ check_input() {
 check_last_words() {
   local most=1
   case $1 in
-    decode) most=0 ;;
+    follow | decode) most=0 ;;
     scan) [ $# -eq 1 ] || is_key_limit "$2" || refuse_words "there is no key limit '$2'$(hint_at_input "$2")" ;;
     calls)
       [ $# -gt 1 ] || refuse_words "calls needs a word of s, p and k"

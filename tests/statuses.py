@@ -11,12 +11,13 @@ import subprocess
 import sys
 
 HERE = os.path.dirname(os.path.abspath(__file__))
-COMMANDS = ["decode any", "scan any", "scan any 9", "calls any spks"]
+COMMANDS = ["decode any", "scan any", "scan any 9", "calls any spks", "follow any"]
 STREAM_START = b"STREAM-START 0:0:0 0:0:0 UTF8\n"
 GOOD = {
     "decode any": b"TEXT UTF8 1 1:0:1\n",
     "scan any": STREAM_START + b"SCALAR 0:0:0 1:0:1 plain 61\nSTREAM-END 1:1:0 1:1:0\n",
     "scan any 9": STREAM_START + b"SCALAR 0:0:0 1:0:1 plain 61\nSTREAM-END 1:1:0 1:1:0\n",
+    "follow any": STREAM_START + b"SCALAR 0:0:0 1:0:1 plain 61\nSTREAM-END 1:1:0 1:1:0\n",
     "calls any spks": STREAM_START + b"PEEK SCALAR 0:0:0 1:0:1\nSKIP\nSTREAM-END 1:1:0 1:1:0\n",
 }
 READER_FAULT = b"FAULT reader 1 255 invalid leading UTF-8 octet\n"
@@ -27,6 +28,7 @@ VERSION = b"yamltok (Bogzhami) " + open(os.path.join(os.path.dirname(HERE), "VER
 HELP = b"""usage: yamltok COMMAND ENC [WORD] < FILE
 
   scan ENC [LIMIT]  list all tokens, with a key limit of 1 to 65536 bytes
+  follow ENC        list each token as soon as no more input can change it
   calls ENC WORD    list the answers to calls: s (scan), p (peek), k (skip)
   decode ENC        say what text the input is
   -h, --help        print this
@@ -42,6 +44,7 @@ NO_USE = b"there is no use for '%s'; the input is standard input"
 WRONG = {
     b"": b"a command is missing", b"decode": b"decode needs an encoding", b"scan": b"scan needs an encoding",
     b"calls": b"calls needs an encoding", b"decode latin1": b"there is no encoding 'latin1'", b"decode any any": NO_USE % b"any",
+    b"follow": b"follow needs an encoding", b"follow utf-8": b"there is no encoding 'utf-8'", b"follow any 9": NO_USE % b"9",
     b"scan any 0": b"there is no key limit '0'", b"scan any 65537": b"there is no key limit '65537'",
     b"scan any 07": b"there is no key limit '07'", b"scan any +1": b"there is no key limit '+1'",
     b"scan any ": b"there is no key limit ''", b"scan any 9 9": NO_USE % b"9", b"scan utf9 0": b"there is no encoding 'utf9'",

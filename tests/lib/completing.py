@@ -12,7 +12,7 @@ ENCODINGS = {"any", "utf8", "utf16le", "utf16be"}
 
 # Lines whose last word is completed in a folder that has the files `here.yaml` and `other`.
 LINES = {
-    "yamltok ": {"scan", "calls", "decode"}, "yamltok --": {"--help", "--version"}, "yamltok s": {"scan"}, "yamltok scan ": ENCODINGS, "yamltok decode utf1": {"utf16le", "utf16be"},
+    "yamltok ": {"scan", "follow", "calls", "decode"}, "yamltok --": {"--help", "--version"}, "yamltok s": {"scan"}, "yamltok scan ": ENCODINGS, "yamltok decode utf1": {"utf16le", "utf16be"},
     "yamltok scan any ": set(), "bogzhami-json -e ": ENCODINGS, "bogzhami-json --key-limit ": set(), "bogzhami-json he": {"here.yaml"},
     "bogzhami-json -e any he": {"here.yaml"}, "bogzhami-lint -w ": set(), "bogzhami-lint -w 9 he": {"here.yaml"},
     "bogzhami-highlight he": {"here.yaml"}, "bogzhami-highlight --html ": {"here.yaml", "other"},

@@ -1,4 +1,4 @@
-"""The examples pieces.c and pieces.cc, and uses/json, over pipes: what they list before more comes, and if reading fails; how much
+"""The examples pieces.c and pieces.cc, uses/json and yamltok, over pipes: what they list before more comes, and if reading fails; how much
 is read again."""
 
 import os
@@ -60,12 +60,12 @@ def build_pieces(room, source, *more, name=""):
 
 
 class Course:
-    """A run of the program, to which more is written once it has listed what is settled. `line_of` makes the line of a scan of a
+    """A run of a command, to which more is written once it has listed what is settled. `line_of` makes the line of a scan of a
     line of the program."""
 
-    def __init__(self, program, reading, line_of=str, environment=None):
+    def __init__(self, command, reading, line_of=str, environment=None):
         pipe = subprocess.PIPE
-        self.run = subprocess.Popen([program], stdin=reading, stdout=pipe, stderr=pipe, env=environment)
+        self.run = subprocess.Popen(command, stdin=reading, stdout=pipe, stderr=pipe, env=environment)
         self.left, self.line_of = b"", line_of
 
     def lines(self, count):
@@ -86,10 +86,10 @@ class Course:
         return [self.line_of(line) for line in lines], told.decode("ascii"), self.run.returncode
 
 
-def course_problem(program, steps, status, line_of=str, environment=None):
+def course_problem(command, steps, status, line_of=str, environment=None):
     """What is wrong with a run over a pipe, or None."""
     reading, writing = os.pipe()
-    course = Course(program, reading, line_of, environment)
+    course = Course(command, reading, line_of, environment)
     os.close(reading)
     for data, wanted in steps:
         if data:
@@ -118,10 +118,10 @@ def lines_of_entries(first, end):
         yield f"SCALAR {at + 2}:{n}:2 {at + 7}:{n}:7 plain 656e747279"
 
 
-def try_followed(program, script, line_of):
+def try_followed(command, script, line_of):
     """Whether a long sequence is listed block by block, as it comes, also when a megabyte came before."""
     reading, writing = os.pipe()
-    course, each, listed, good = Course(program, reading, line_of), BLOCK // len(ENTRY), 0, True
+    course, each, listed, good = Course(command, reading, line_of), BLOCK // len(ENTRY), 0, True
     os.close(reading)
     start = ["STREAM-START 0:0:0 0:0:0 UTF8", "BLOCK-SEQUENCE-START 0:0:0 0:0:0"]
     for block in range(1, BLOCKS + 1):
@@ -136,7 +136,7 @@ def try_followed(program, script, line_of):
     good = good and course.end() == (rest, "", 0)
     course.run.kill()
     size, told = len(ENTRY) * each * BLOCKS, "all right" if good else "wrong"
-    print(f"{script}: {os.path.basename(program)}, {BLOCKS} blocks of a sequence of {size} bytes, {told}", flush=True)
+    print(f"{script}: {os.path.basename(command[0])}, {BLOCKS} blocks of a sequence of {size} bytes, {told}", flush=True)
     return good
 
 
@@ -179,15 +179,15 @@ def compiled(room, name, source, *words):
     return path
 
 
-def try_failed(program, room, script, line_of):
+def try_failed(command, room, script, line_of, wanted_told):
     """Whether all that is settled is listed if reading fails. The end of the literal comes when so much of it came before that the
     program waits for more of it than that."""
     data, wanted = literal(1_500_000)
     failing = compiled(room, "failing.so", FAILING, "-shared", "-fPIC")
-    done = subprocess.run([program], input=data, capture_output=True, timeout=WAIT, env={**os.environ, "LD_PRELOAD": failing})
+    done = subprocess.run(command, input=data, capture_output=True, timeout=WAIT, env={**os.environ, "LD_PRELOAD": failing})
     listed, told = [line_of(line) for line in done.stdout.decode("ascii").splitlines()], done.stderr.decode("ascii")
-    name = os.path.basename(program)
-    good = (listed, told, done.returncode) == (wanted, f"{name}: standard input: Input/output error\n", 3)
+    name = os.path.basename(command[0])
+    good = (listed, told, done.returncode) == (wanted, wanted_told, 3)
     print(f"{script}: {name}, reading fails: {len(listed)} lines, status {done.returncode}, {'all right' if good else 'wrong'}")
     return good
 
@@ -233,8 +233,9 @@ def try_again(source, room, script, line_of):
 
 def try_pipes(source, room, script="ffi", line_of=str):
     """Tries an example, or json, that was built before. `script` is told what comes of it."""
-    program = os.path.join(room, NAMES[source])
-    wrong = [problem for steps, status in COURSES if (problem := course_problem(program, steps, status, line_of))]
+    command = [os.path.join(room, NAMES[source])]
+    told = f"{NAMES[source]}: standard input: Input/output error\n"
+    wrong = [problem for steps, status in COURSES if (problem := course_problem(command, steps, status, line_of))]
     print(f"{script}: {NAMES[source]}, {len(COURSES)} pipes, {len(wrong)} wrong {wrong[:1] or ''}", flush=True)
-    good = [not wrong, try_followed(program, script, line_of), try_failed(program, room, script, line_of)]
+    good = [not wrong, try_followed(command, script, line_of), try_failed(command, room, script, line_of, told)]
     return all([*good, try_again(source, room, script, line_of)])

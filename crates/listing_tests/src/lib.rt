@@ -6,6 +6,8 @@
 #[cfg(test)]
 mod decode_tests;
 #[cfg(test)]
+mod follow_tests;
+#[cfg(test)]
 mod line_tests;
 #[cfg(test)]
 mod note_tests;

@@ -5,7 +5,7 @@ use std::test::Fail;
 use yaml_listing::{fault_of_words, yaml_word_fault_t};
 
 /// Wrong words, and what is said of them.
-const WRONG: [(&str, &str); 22] = [
+const WRONG: [(&str, &str); 24] = [
     ("scna any", "there is no command 'scna'"),
     ("Scan any", "there is no command 'Scan'"),
     ("list", "there is no command 'list'"),
@@ -21,6 +21,7 @@ const WRONG: [(&str, &str); 22] = [
     ("scan", "scan needs an encoding"),
     ("calls", "calls needs an encoding"),
     ("decode", "decode needs an encoding"),
+    ("follow", "follow needs an encoding"),
     ("decode latin1", "there is no encoding 'latin1'"),
     ("scan utf9 0", "there is no encoding 'utf9'"),
     ("calls s any", "there is no encoding 's'"),
@@ -33,6 +34,10 @@ const WRONG: [(&str, &str); 22] = [
     (
         "decode any FILE",
         "there is no use for 'FILE'; the input is standard input",
+    ),
+    (
+        "follow any 9",
+        "there is no use for '9'; the input is standard input",
     ),
     (
         "decode any a b",
@@ -49,8 +54,9 @@ const WRONG: [(&str, &str); 22] = [
 ];
 
 /// Words that spell a command.
-const RIGHT: [&str; 6] = [
+const RIGHT: [&str; 7] = [
     "scan any",
+    "follow any",
     "scan utf8 1",
     "scan utf16le 65536",
     "decode utf16be",

@@ -1,5 +1,5 @@
 -- What was written of a scan is its listing.
-use Rattle.std.proofs.Common.{◌≡◌, ◌++◌, ℕ, List, Option, ap, ◌∙◌, refl}
+use Rattle.std.proofs.Common.{◌≡◌, ◌++◌, [], ℕ, List, Option, ap, ◌∙◌, refl}
 use Rattle.std.specs.Prelude.{IfSome, is_some}
 use Rattle.yaml_text.specs.declared.types.yaml_encoding_t.{yaml_encoding_t}
 use Rattle.yaml_text.specs.Fault.{Fault}
@@ -31,3 +31,12 @@ module _ (limit : ℕ) (setting : yaml_encoding_t) (input told : List ℕ) (faul
         lines_are = more ∙ ap (λ (z : List ℕ). z ++ fault_lines fault) given.given;
         fault_is = refl;
       }
+
+  -- lines that were appended to none
+  pub tells_all : (front : List ℕ) → front ≡ [] → IsGivenAll (λ tokens. told ≡ front ++ token_lines tokens) limit setting input fault
+      → Tells limit setting input told fault
+  tells_all front none given = record {
+    tokens = given.tokens;
+    given = given.given ∙ ap (λ (z : List ℕ). z ++ token_lines given.tokens) none;
+    reads = given.reads;
+  }

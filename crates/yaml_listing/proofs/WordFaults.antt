@@ -10,11 +10,14 @@ pub two_spell :
     → Spells (command ∷ setting ∷ [])
 two_spell command setting (inl scan) s n =
     let named = s.1 in
-    (Scan s.0, record { words_are = cc; right = refl })
+    inl (Scan s.0, record { words_are = cc; right = refl })
 two_spell command setting (inr (inl calls)) s n = absurd (n calls)
-two_spell command setting (inr (inr decode)) s n =
+two_spell command setting (inr (inr (inl decode))) s n =
     let named = s.1 in
-    (Decode s.0, record { words_are = cc; right = refl })
+    inl (Decode s.0, record { words_are = cc; right = refl })
+two_spell command setting (inr (inr (inr follow))) s n =
+    let named = s.1 in
+    inr (s.0, cc)
 
 -- a key limit after `scan`
 pub limit_spells :
@@ -23,7 +26,7 @@ pub limit_spells :
 limit_spells command setting word scan s l =
     let named = s.1 in
     let spelled = l.2 in
-    (ScanLimit s.0 l.0, record { words_are = cc; right = l.1 })
+    inl (ScanLimit s.0 l.0, record { words_are = cc; right = l.1 })
 
 -- what holds of three texts and any texts after them holds of those of a list that begins with these items
 pub begins_so :

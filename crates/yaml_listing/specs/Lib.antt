@@ -5,4 +5,5 @@ pub mod Outcome
 pub mod Note
 pub mod WordFault
 pub mod Run
+pub mod Follow
 pub mod inside

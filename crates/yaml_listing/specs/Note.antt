@@ -13,6 +13,7 @@ AsksFor words Version = words ≡ codes "--version" ∷ []
 abbrev pub command_lines : List ℕ
 command_lines =
     codes "  scan ENC [LIMIT]  list all tokens, with a key limit of 1 to 65536 bytes\n"
+    ++ codes "  follow ENC        list each token as soon as no more input can change it\n"
     ++ codes "  calls ENC WORD    list the answers to calls: s (scan), p (peek), k (skip)\n"
     ++ codes "  decode ENC        say what text the input is\n"
     ++ codes "  -h, --help        print this\n"

@@ -3,6 +3,7 @@ use Rattle.std.specs.Prelude.{ℕ, ◌≡◌, ◌⊎◌, true, false, List, [], 
 use Rattle.std.specs.Fmt.{decimal}
 use Rattle.yaml_text.specs.declared.types.yaml_encoding_t.{yaml_encoding_t}
 use Rattle.yaml_listing.specs.Args.{setting_word, is_limit, are_letters, AreWordsOf}
+use Rattle.yaml_listing.specs.Follow.{AskToFollow}
 use Rattle.yaml_listing.specs.Note.{AsksFor}
 use Rattle.yaml_listing.specs.declared.args.yaml_command_t.{yaml_command_t}
 use Rattle.yaml_listing.specs.declared.note.yaml_note_t.{yaml_note_t}
@@ -20,7 +21,7 @@ use Rattle.yaml_listing.specs.declared.word_fault.yaml_word_fault_t.TheVariants.
 
 -- the words that commands begin with
 abbrev pub IsCommand : List ℕ → Type 0
-IsCommand word = (word ≡ codes "scan") ⊎ ((word ≡ codes "calls") ⊎ (word ≡ codes "decode"))
+IsCommand word = (word ≡ codes "scan") ⊎ ((word ≡ codes "calls") ⊎ ((word ≡ codes "decode") ⊎ (word ≡ codes "follow")))
 
 -- the word of an encoding setting
 abbrev pub IsSetting : List ℕ → Type 0
@@ -38,11 +39,13 @@ IsNote word = (note : yaml_note_t) × AsksFor (word ∷ []) note
 abbrev pub StandsAt : ℕ → List (List ℕ) → List ℕ → Type 0
 StandsAt count words word = take 1 (drop count words) ≡ word ∷ []
 
--- No command takes a word where this one stands: a note stands alone, `decode` has two words, and no command has four.
+-- No command takes a word where this one stands: a note stands alone, `decode` and `follow` have two words, and no
+-- command has four.
 abbrev pub IsExtra : List (List ℕ) → List ℕ → Type 0
 IsExtra words word =
     ((note : List ℕ) × (StandsAt 0 words note × (IsNote note × StandsAt 1 words word)))
-    ⊎ ((StandsAt 0 words (codes "decode") × StandsAt 2 words word) ⊎ StandsAt 3 words word)
+    ⊎ (((StandsAt 0 words (codes "decode") ⊎ StandsAt 0 words (codes "follow")) × StandsAt 2 words word)
+    ⊎ StandsAt 3 words word)
 
 -- These words have that fault.
 abbrev pub HasFault : List (List ℕ) → yaml_word_fault_t → Type 0
@@ -57,6 +60,7 @@ HasFault words (Calls word) =
     StandsAt 0 words (codes "calls") × (StandsAt 2 words word.now × (are_letters word.now ≡ false))
 HasFault words (Extra word) = IsExtra words word.now
 
--- these words spell a command
+-- these words spell a command, or ask for an input to be followed
 abbrev pub Spells : List (List ℕ) → Type 0
-Spells words = (command : yaml_command_t) × AreWordsOf words command
+Spells words = ((command : yaml_command_t) × AreWordsOf words command)
+    ⊎ ((setting : yaml_encoding_t) × AskToFollow words setting)

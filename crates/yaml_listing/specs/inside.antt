@@ -2,3 +2,4 @@
 -- of it.
 pub mod Put
 pub mod TokenLines
+pub mod Following

@@ -20,7 +20,7 @@ use yaml_scan::{
 use yaml_text::{unnamed_yaml_token_t_data, yaml_decode, yaml_encoding_t, yaml_token_t};
 
 /// The usual key limit, in bytes.
-const KEY_LIMIT: u32 = 1024;
+pub(crate) const KEY_LIMIT: u32 = 1024;
 
 /// The line of what the input decodes to, and whether it is a fault's.
 fn list_decoded(
@@ -45,18 +45,29 @@ fn list_decoded(
 
 /// The lines of the tokens that were given, at the beginning of bytes, and the last mark.
 #[derive(Drop)]
-struct token_lines_t {
-    bytes: Vec<u8>,
-    len: usize,
+pub(crate) struct token_lines_t {
+    pub(crate) bytes: Vec<u8>,
+    pub(crate) len: usize,
     kept: kept_mark_t,
     ghost within: { len ≤ vec_len bytes },
 }
 
 impl token_lines_t {
-    ghost use Rattle.std.specs.Prelude.{◌≡◌, take};
+    ghost use Rattle.std.specs.Prelude.{◌≡◌, [], take};
+
+    /// No line.
+    pub fn new(alloc: Global) -> token_lines_t
+        ensures { take result.len result.bytes.items ≡ [] }
+    {
+        token_lines_t {
+            bytes: Vec::new(alloc),
+            len: 0,
+            kept: kept_mark_t::new(),
+        }
+    }
 
     /// The lines alone.
-    fn into_lines(self) -> Vec<u8>
+    pub fn into_lines(self) -> Vec<u8>
         ensures { result.items ≡ take self.len self.bytes.items }
     {
         let token_lines_t {
@@ -120,11 +131,7 @@ fn list_scanned(
     requires { is_limit limit ≡ true }
     ensures { IfOk result (λ answer. ListsScan limit setting input.now answer.0.items answer.1) }
 {
-    let mut sink = token_lines_t {
-        bytes: Vec::new(alloc),
-        len: 0,
-        kept: kept_mark_t::new(),
-    };
+    let mut sink = token_lines_t::new(alloc);
     let fault = yaml_scan_to(alloc, input, setting, limit, &mut sink)?;
     let mut listing = sink.into_lines();
     match fault {

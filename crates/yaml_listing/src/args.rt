@@ -4,6 +4,7 @@ ghost use Rattle.std.specs.Prelude.{IsTrue, slice_index, IfSome, IfNone, string_
 ghost use Rattle.std.specs.Fmt.{decimal};
 ghost use Rattle.std.specs.Int.{IsInRange};
 ghost use Rattle.yaml_listing.specs.Args.{setting_word, is_limit, are_letters, is_letter, is_right, AreWordsOf};
+ghost use Rattle.yaml_listing.specs.Follow.{AskToFollow};
 ghost use Rattle.yaml_listing.specs.declared.args.yaml_command_t.{yaml_command_t};
 ghost use Rattle.yaml_text.specs.declared.types.yaml_encoding_t.{yaml_encoding_t};
 
@@ -136,6 +137,29 @@ pub fn parse_args(words: &[String]) -> Option<yaml_command_t>
         [command, setting, word] => {
             parse_three(command.as_str(), setting.as_str(), word.as_str())
         }
+        _ => None,
+    }
+}
+
+/// The encoding setting of two words, if they ask for an input to be followed.
+fn parse_pair(command: &str, setting: &str) -> Option<yaml_encoding_t>
+    ensures some { IfSome result (λ s. AskToFollow (command.now ∷ setting.now ∷ []) s) }
+    ensures none { IfNone result ((s : yaml_encoding_t) → AskToFollow (command.now ∷ setting.now ∷ []) s → ⊥) }
+{
+    match command {
+        "follow" => parse_setting(setting),
+        _ => None,
+    }
+}
+
+/// The encoding setting of the words `follow ENC`, without the program's name. All other words ask for no input to be
+/// followed.
+pub fn parse_follow(words: &[String]) -> Option<yaml_encoding_t>
+    ensures some { IfSome result (λ setting. AskToFollow (map string_bytes words.now) setting) }
+    ensures none { IfNone result ((setting : yaml_encoding_t) → AskToFollow (map string_bytes words.now) setting → ⊥) }
+{
+    match words {
+        [command, setting] => parse_pair(command.as_str(), setting.as_str()),
         _ => None,
     }
 }

@@ -51,6 +51,7 @@ pub fn note_text(note: yaml_note_t) -> &'static str
             "usage: yamltok COMMAND ENC [WORD] < FILE\n\
              \n\
              \x20 scan ENC [LIMIT]  list all tokens, with a key limit of 1 to 65536 bytes\n\
+             \x20 follow ENC        list each token as soon as no more input can change it\n\
              \x20 calls ENC WORD    list the answers to calls: s (scan), p (peek), k (skip)\n\
              \x20 decode ENC        say what text the input is\n\
              \x20 -h, --help        print this\n\

@@ -12,7 +12,7 @@ use crate::outcome::tool_fault_t;
 use std::alloc::Global;
 
 /// A read is asked for so many bytes.
-const CHUNK: usize = 65536;
+pub(crate) const CHUNK: usize = 65536;
 
 /// Reads once, at most as much as the buffer holds, and returns whether there was anything left to read.
 fn read_chunk<R: yaml_source_t>(

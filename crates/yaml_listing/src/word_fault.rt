@@ -39,7 +39,7 @@ pub enum yaml_word_fault_t<'a> {
 fn is_command(word: &str) -> bool
     ensures { IsTrue result ↔ IsCommand word.now }
 {
-    matches!(word, "scan" | "calls" | "decode")
+    matches!(word, "scan" | "calls" | "decode" | "follow")
 }
 
 /// What is wrong with a word that stands alone and asks for no note.

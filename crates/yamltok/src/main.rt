@@ -1,9 +1,10 @@
 //! Lists the tokens of a YAML stream, or says what its text is, or why it is none.
 //!
-//! Standard input is read to its end. Then the answer to it is written:
+//! Standard input is read to its end. Then the answer to it is written, or by `follow` while it is read:
 //!
 //! - `yamltok scan ENC` writes a line for each token, and one for the fault, if there is one;
 //! - `yamltok scan ENC LIMIT` does so with a key limit of 1 to 65536 bytes;
+//! - `yamltok follow ENC` writes what `scan ENC` does, each line as soon as no more bytes can change it;
 //! - `yamltok calls ENC WORD` writes a line for each answer to the calls of WORD: `s` for a scan, `p` for a peek, `k`
 //!   for a skip;
 //! - `yamltok decode ENC` writes one line of the text, or of the fault.
@@ -22,7 +23,7 @@ use std::env::Env;
 use std::io::ErrorKind;
 use std::process::ExitCode;
 use yaml_listing::{
-    fault_of_words, parse_args, parse_note, run, tell, tool_fault_t, yaml_sink_of_t,
+    fault_of_words, follow, parse_args, parse_follow, parse_note, run, tell, tool_fault_t, yaml_sink_of_t,
     yaml_source_of_t, yaml_status,
 };
 
@@ -41,8 +42,11 @@ fn outcome_of(rt: &HostRuntime, words: &[String]) -> Result<bool, tool_fault_t> 
         tell(note, &mut writer)?;
         return Ok(false);
     }
-    let command = parse_args(words).ok_or(tool_fault_t::Args)?;
     let mut reader = yaml_source_of_t::new(rt.stdin());
+    if let Some(setting) = parse_follow(words) {
+        return follow(rt.alloc(), setting, &mut reader, &mut writer);
+    }
+    let command = parse_args(words).ok_or(tool_fault_t::Args)?;
     run::run(rt.alloc(), &command, &mut reader, &mut writer)
 }
 

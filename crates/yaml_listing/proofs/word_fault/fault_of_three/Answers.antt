@@ -1,4 +1,4 @@
-use Rattle.std.proofs.Common.{◌∷◌, sym, ◌∙◌}
+use Rattle.std.proofs.Common.{◌∷◌, sym, ◌∙◌, inl}
 use Rattle.yaml_listing.proofs.WordFaults.{limit_spells}
 use Rattle.yaml_listing.specs.declared.args.yaml_command_t.TheVariants.{Calls}
 use Rattle.yaml_listing.proofs.word_fault.fault_of_three.Goals as goal
@@ -18,4 +18,4 @@ returns-in-calls-clause-none c =
     let setting = c.in_default.ensures.none.1 in
     let named = setting.1 in
     let calls = c.in-calls.is in
-    (Calls setting.0 c.args.word, record { words_are = cc; right = sym c.are_letters.ensures ∙ c.if-are_letters.true })
+    inl (Calls setting.0 c.args.word, record { words_are = cc; right = sym c.are_letters.ensures ∙ c.if-are_letters.true })
