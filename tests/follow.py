@@ -24,7 +24,7 @@ from pieces import inputs
 from piped import COURSES, course_problem, literal, try_failed, try_followed, write_all
 from worked import MEMORY, build_refuser, run_counted
 
-USUAL_LIMIT, MOST_SHOWN, TIMEOUT = "1024", 20, 60
+MOST_SHOWN, TIMEOUT = 20, 60
 SIZES = (1, 5, 64)  # bytes of a piece
 LONG, MOST_SECONDS = 100_000_000, 40
 REFUSED = [b"", b"a: b\nc: *d\n", b"- {a: 'b', c: [d]}\n- |\n  e\n- f\n", b"a: b: c", b"%TAG ! x:\n--- !y &z \"a\\tb\"\n...\n", b"- x\n" * 60, b"a\xff"]
@@ -102,7 +102,7 @@ def try_long(program):
 
 
 def main(program):
-    every = sorted({(encoding, data) for encoding, limit, data in inputs() if limit == USUAL_LIMIT})
+    every = sorted({(encoding, data) for encoding, _, data in inputs()})
     with ThreadPoolExecutor() as pool:
         problems = [problem for found in pool.map(lambda row: problems_of(program, row), every) for problem in found]
     for problem in problems[:MOST_SHOWN]:
