@@ -11,6 +11,7 @@ use yaml_text::yaml_encoding_t;
 
 /// Two entries, and their listing.
 const ENTRIES: &[u8] = b"- first\n- second one\n";
+
 const LINES: &str = "\
 STREAM-START 0:0:0 0:0:0 UTF8
 BLOCK-SEQUENCE-START 0:0:0 0:0:0
@@ -27,6 +28,7 @@ const SETTLED: [(usize, usize); 6] = [(0, 0), (7, 0), (8, 1), (9, 3), (16, 4), (
 
 /// A key with two values, of which the second one is wrong, and its listing.
 const FAULTY: &[u8] = b"a: b: c\nand so on\n";
+
 const FAULT_LINES: &str = "\
 STREAM-START 0:0:0 0:0:0 UTF8
 BLOCK-MAPPING-START 0:0:0 0:0:0
@@ -123,7 +125,13 @@ fn words_that_ask_to_follow(rt: HostRuntime) -> Result<(), Fail> {
     let asked = words_of(rt.alloc(), "follow utf16le")?;
     let setting = yaml_encoding_t::YAML_UTF16LE_ENCODING;
     assert!(rt; parse_follow(&asked) == Some(setting));
-    for words in &["follow", "follow any 9", "follow utf-8", "Follow any", "scan any"] {
+    for words in &[
+        "follow",
+        "follow any 9",
+        "follow utf-8",
+        "Follow any",
+        "scan any",
+    ] {
         let others = words_of(rt.alloc(), words)?;
         assert!(rt; parse_follow(&others).is_none(), "{words}");
     }

@@ -1,8 +1,7 @@
 -- What is written of an input that is followed begins its listing, and at the end is all of it.
-use Rattle.std.proofs.Common.{◌≡◌, ◌⊎◌, ◌++◌, [], ◌∷◌, ℕ, zero, suc, ◌+◌, Bool, true, false, List, Option, None, Some, length, length-append, take, drop, refl, sym, ap, ◌∙◌, subst, arith, inl, inr, append-nil, append_assoc}
+use Rattle.std.proofs.Common.{◌≡◌, ◌⊎◌, ◌++◌, [], ◌∷◌, ℕ, zero, suc, Bool, true, false, List, Option, None, Some, length, length-append, take, drop, refl, sym, ap, ◌∙◌, subst, arith, inl, inr, append-nil, append_assoc}
 use Rattle.std.proofs.Math.Seq.{take-add}
 use Rattle.std.specs.Prelude.{is_some, Result, Ok, Err, IsErr, OnErr, MatchResult}
-use Rattle.std.proofs.lemmas.Bool.{false≢true}
 use Rattle.yaml_text.specs.declared.types.yaml_encoding_t.{yaml_encoding_t}
 use Rattle.yaml_text.specs.Fault.{Fault, memory_fault}
 use Rattle.yaml_text.specs.Token.{Token}
@@ -10,7 +9,7 @@ use Rattle.yaml_scan.specs.All.{AllOf}
 use Rattle.yaml_scan.specs.Answers.{Answers}
 use Rattle.yaml_scan.specs.Begins.{Begins}
 use Rattle.yaml_scan.specs.Fed.{EndsBy, Fed, HasTakenAll, MayBe, Why, comes}
-use Rattle.yaml_scan.specs.Fed.Why.{MORE, WHOLE, OVER, FAULT}
+use Rattle.yaml_scan.specs.Fed.Why.{MORE, WHOLE, OVER}
 use Rattle.yaml_scan.specs.FedCalls.{GivesFed, HasNoRoom, IsWhy}
 use Rattle.yaml_scan.specs.Inputs.{answers_to}
 use Rattle.yaml_scan.specs.Words.{HasLine}
@@ -21,7 +20,6 @@ use Rattle.yaml_scan.specs.inside.Feeding.{IsFed}
 use Rattle.yaml_scan.proofs.RunningCalls.FedGives.{more_comes}
 use Rattle.yaml_scan.proofs.SessionCalls.ListWords.{reads_have_lines}
 use Rattle.yaml_listing.specs.Args.{usual_key_limit}
-use Rattle.yaml_listing.specs.Follow.{BeginsListing, ListsOn}
 use Rattle.yaml_listing.specs.Listing.{fault_line, fault_lines, token_lines}
 use Rattle.yaml_listing.specs.inside.Following.{EndsByFault, IsAt, IsBeginning, IsListing, Listed, Settled}
 use Rattle.yaml_listing.specs.inside.TokenLines.{lines_split}
@@ -227,14 +225,13 @@ module _ (s : yaml_encoding_t) (given : List ℕ) (k : yaml_fed_parser_t) (told 
     taken_all f h input m =
         let w = subst (λ (b : Bool). MayBe b q.given input) (sym whole_left) (subst (λ (z : List ℕ). MayBe last z input) (sym given_left) m) in
         let t = h input w in
-        let xs = (answers_to usual_key_limit s input).tokens in
-        (
+        let xs = (answers_to usual_key_limit s input).tokens in (
           first input m
-          ∙ ap (λ (n : ℕ). take n xs) (sym count)
-          ∙ ap (λ (z : Answers). take q.session.taken z.tokens) (sym (answers_left input))
-          ∙ t.0
-          ∙ ap (λ (z : Answers). z.tokens) (answers_left input),
-          t.1 ∙ ap (λ (z : Answers). z.fault) (answers_left input)
+              ∙ ap (λ (n : ℕ). take n xs) (sym count)
+              ∙ ap (λ (z : Answers). take q.session.taken z.tokens) (sym (answers_left input))
+              ∙ t.0
+              ∙ ap (λ (z : Answers). z.tokens) (answers_left input),
+          t.1 ∙ ap (λ (z : Answers). z.fault) (answers_left input),
         )
 
     lists_all : (f : Option Fault) (b : Bool) → b ≡ is_some f → HasTakenAll q f → IsListing s last given ((told ++ lines) ++ fault_lines f) b
@@ -250,8 +247,11 @@ module _ (s : yaml_encoding_t) (given : List ℕ) (k : yaml_fed_parser_t) (told 
     lists_refused input m = record {
       tokens = all;
       fault = Some memory_fault;
-      answers = inr (subst (λ (z : List Token). Begins z (answers_to usual_key_limit s input).tokens) (sym (first input m))
-          (take_begins (length all) (answers_to usual_key_limit s input).tokens), refl);
+      answers = inr (
+        subst (λ (z : List Token). Begins z (answers_to usual_key_limit s input).tokens) (sym (first input m))
+            (take_begins (length all) (answers_to usual_key_limit s input).tokens),
+        refl,
+      );
       lines_are = ap (λ (z : List ℕ). z ++ fault_line memory_fault) all_lines;
       fault_is = refl;
     }
@@ -284,8 +284,10 @@ module _ (s : yaml_encoding_t) (given : List ℕ) (k : yaml_fed_parser_t) (told 
 
     by_fault : (f : Fault) → (f ≡ memory_fault) ⊎ HasTakenAll q (Some f)
         → HasLine f × IsListing s last given ((told ++ lines) ++ fault_line f) true
-    by_fault f (inl e) = (subst (λ (x : Fault). HasLine x) (sym e) tt,
-        subst (λ (x : Fault). IsListing s last given ((told ++ lines) ++ fault_line x) true) (sym e) lists_refused)
+    by_fault f (inl e) = (
+      subst (λ (x : Fault). HasLine x) (sym e) tt,
+      subst (λ (x : Fault). IsListing s last given ((told ++ lines) ++ fault_line x) true) (sym e) lists_refused,
+    )
     by_fault f (inr h) = (has_line f h, lists_all (Some f) true refl h)
 
     over_lists : EndsBy p q OVER → IsListing s last given (told ++ lines) false

@@ -49,6 +49,10 @@ impl pace_t {
         self.settled = settled;
         self.scanned = came;
         let waiting = came.saturating_sub(settled);
-        self.credit = self.credit.saturating_add(allowed).saturating_sub(waiting).min(MOST);
+        self.credit = self
+            .credit
+            .saturating_add(allowed)
+            .saturating_sub(waiting)
+            .min(MOST);
     }
 }

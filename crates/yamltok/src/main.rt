@@ -23,8 +23,8 @@ use std::env::Env;
 use std::io::ErrorKind;
 use std::process::ExitCode;
 use yaml_listing::{
-    fault_of_words, follow, parse_args, parse_follow, parse_note, run, tell, tool_fault_t, yaml_sink_of_t,
-    yaml_source_of_t, yaml_status,
+    fault_of_words, follow, parse_args, parse_follow, parse_note, run, tell, tool_fault_t,
+    yaml_sink_of_t, yaml_source_of_t, yaml_status,
 };
 
 /// The words of the command line, without the program's name.

@@ -1,5 +1,5 @@
 -- What is read and written, read by read.
-use Rattle.std.proofs.Common.{◌++◌, ℕ, List, false, true, refl, sym, subst}
+use Rattle.std.proofs.Common.{ℕ, List, false, true, sym, subst}
 use Rattle.std.proofs.KnownBytes.{Consumes-trans}
 use Rattle.std.proofs.lemmas.Bool.{false≢true}
 use Rattle.std.specs.Io.KnownBytes.{Appends, Consumes}
@@ -36,10 +36,10 @@ returns-in_err-has_fault-clause-cut g c =
     let sink = g.W.yaml_sink_t.contents in
     let bytes = c.in_ok-read.ensures.bytes in
     let read = subst (λ (z : List ℕ). Consumes (source c.args.reader.now) (source c.read.new.reader) z) (sym bytes.1)
-        (Consumes-trans (source c.args.reader.now) (source c.loop-follower.reader) (source c.read.new.reader) c.loop-follower.follower.input.items bytes.0 i.read bytes.2) in
+    (Consumes-trans (source c.args.reader.now) (source c.loop-follower.reader) (source c.read.new.reader) c.loop-follower.follower.input.items bytes.0 i.read bytes.2) in
     let told = subst (λ z. Appends (sink c.args.writer.now) (sink z) i.told.0) (sym c.in_ok-read.ensures.unwritten) i.told.1 in
     let w = c.in_err-has_fault.ensures.wrote c.args.setting (sink c.args.writer.now) i.told.0
-        (c.in_ok-read.ensures.at c.args.setting i.told.0 i.told.2) told in
+    (c.in_ok-read.ensures.at c.args.setting i.told.0 i.told.2) told in
     on_error c.from_residual-in_err-has_fault.result _ (record {
       given = c.read.new.self.input.items;
       left = source c.read.new.reader;
@@ -58,10 +58,10 @@ returns-in-Some-clause-done g c =
     let sink = g.W.yaml_sink_t.contents in
     let bytes = c.in_ok-read.ensures.bytes in
     let read = subst (λ (z : List ℕ). Consumes (source c.args.reader.now) (source c.read.new.reader) z) (sym bytes.1)
-        (Consumes-trans (source c.args.reader.now) (source c.loop-follower.reader) (source c.read.new.reader) c.loop-follower.follower.input.items bytes.0 i.read bytes.2) in
+    (Consumes-trans (source c.args.reader.now) (source c.loop-follower.reader) (source c.read.new.reader) c.loop-follower.follower.input.items bytes.0 i.read bytes.2) in
     let told = subst (λ z. Appends (sink c.args.writer.now) (sink z) i.told.0) (sym c.in_ok-read.ensures.unwritten) i.told.1 in
     let w = c.in_ok-has_fault.ensures.wrote c.args.setting (sink c.args.writer.now) i.told.0
-        (c.in_ok-read.ensures.at c.args.setting i.told.0 i.told.2) told in
+    (c.in_ok-read.ensures.at c.args.setting i.told.0 i.told.2) told in
     record {
       given = c.read.new.self.input.items;
       read = read;
@@ -79,17 +79,21 @@ loop-follower-preserved g c =
     let sink = g.W.yaml_sink_t.contents in
     let bytes = c.in_ok-read.ensures.bytes in
     let read = subst (λ (z : List ℕ). Consumes (source c.args.reader.now) (source c.read.new.reader) z) (sym bytes.1)
-        (Consumes-trans (source c.args.reader.now) (source c.loop-follower.reader) (source c.read.new.reader) c.loop-follower.follower.input.items bytes.0 i.read bytes.2) in
+    (Consumes-trans (source c.args.reader.now) (source c.loop-follower.reader) (source c.read.new.reader) c.loop-follower.follower.input.items bytes.0 i.read bytes.2) in
     let told = subst (λ z. Appends (sink c.args.writer.now) (sink z) i.told.0) (sym c.in_ok-read.ensures.unwritten) i.told.1 in
     let w = c.in_ok-has_fault.ensures.wrote c.args.setting (sink c.args.writer.now) i.told.0
-        (c.in_ok-read.ensures.at c.args.setting i.told.0 i.told.2) told in
+    (c.in_ok-read.ensures.at c.args.setting i.told.0 i.told.2) told in
     let same = c.in_ok-has_fault.ensures.same in
     record {
       reader = c.in_ok-read.ensures.failed;
       writer = sym c.in_ok-has_fault.ensures.write;
       read = subst (λ (z : List ℕ). Consumes (source c.args.reader.now) (source c.read.new.reader) z) (sym same) read;
-      told = (w.0, w.1, subst (λ (z : List ℕ). IsAt c.args.setting z c.go_on.new.self.fed w.0) (sym same)
-          (settled_on c.args.setting false c.read.new.self.input.items c.go_on.new.self.fed w.0 c.in_ok-has_fault.field-0 c.in_default.is w.2).1);
+      told = (
+        w.0,
+        w.1,
+        subst (λ (z : List ℕ). IsAt c.args.setting z c.go_on.new.self.fed w.0) (sym same)
+            (settled_on c.args.setting false c.read.new.self.input.items c.go_on.new.self.fed w.0 c.in_ok-has_fault.field-0 c.in_default.is w.2).1,
+      );
     }
 
 pub write-requires-clause-at : goal.write-requires-clause-at
@@ -104,10 +108,10 @@ returns-in_err-has_fault-2-clause-cut g c =
     let sink = g.W.yaml_sink_t.contents in
     let bytes = c.in_ok-read.ensures.bytes in
     let read = subst (λ (z : List ℕ). Consumes (source c.args.reader.now) (source c.read.new.reader) z) (sym bytes.1)
-        (Consumes-trans (source c.args.reader.now) (source c.loop-follower.reader) (source c.read.new.reader) c.loop-follower.follower.input.items bytes.0 i.read bytes.2) in
+    (Consumes-trans (source c.args.reader.now) (source c.loop-follower.reader) (source c.read.new.reader) c.loop-follower.follower.input.items bytes.0 i.read bytes.2) in
     let told = subst (λ z. Appends (sink c.args.writer.now) (sink z) i.told.0) (sym c.in_ok-read.ensures.unwritten) i.told.1 in
     let w = c.in_err-has_fault-2.ensures.wrote c.args.setting (sink c.args.writer.now) i.told.0
-        (c.in_ok-read.ensures.at c.args.setting i.told.0 i.told.2) told in
+    (c.in_ok-read.ensures.at c.args.setting i.told.0 i.told.2) told in
     on_error c.from_residual-in_err-has_fault-2.result _ (record {
       given = c.read.new.self.input.items;
       left = source c.read.new.reader;
@@ -126,10 +130,10 @@ returns-in-Some-2-clause-done g c =
     let sink = g.W.yaml_sink_t.contents in
     let bytes = c.in_ok-read.ensures.bytes in
     let read = subst (λ (z : List ℕ). Consumes (source c.args.reader.now) (source c.read.new.reader) z) (sym bytes.1)
-        (Consumes-trans (source c.args.reader.now) (source c.loop-follower.reader) (source c.read.new.reader) c.loop-follower.follower.input.items bytes.0 i.read bytes.2) in
+    (Consumes-trans (source c.args.reader.now) (source c.loop-follower.reader) (source c.read.new.reader) c.loop-follower.follower.input.items bytes.0 i.read bytes.2) in
     let told = subst (λ z. Appends (sink c.args.writer.now) (sink z) i.told.0) (sym c.in_ok-read.ensures.unwritten) i.told.1 in
     let w = c.in_ok-has_fault-2.ensures.wrote c.args.setting (sink c.args.writer.now) i.told.0
-        (c.in_ok-read.ensures.at c.args.setting i.told.0 i.told.2) told in
+    (c.in_ok-read.ensures.at c.args.setting i.told.0 i.told.2) told in
     record {
       given = c.read.new.self.input.items;
       read = read;
@@ -147,8 +151,8 @@ returns-clause-done g c =
     let sink = g.W.yaml_sink_t.contents in
     let bytes = c.in_ok-read.ensures.bytes in
     let read = subst (λ (z : List ℕ). Consumes (source c.args.reader.now) (source c.read.new.reader) z) (sym bytes.1)
-        (Consumes-trans (source c.args.reader.now) (source c.loop-follower.reader) (source c.read.new.reader) c.loop-follower.follower.input.items bytes.0 i.read bytes.2) in
+    (Consumes-trans (source c.args.reader.now) (source c.loop-follower.reader) (source c.read.new.reader) c.loop-follower.follower.input.items bytes.0 i.read bytes.2) in
     let told = subst (λ z. Appends (sink c.args.writer.now) (sink z) i.told.0) (sym c.in_ok-read.ensures.unwritten) i.told.1 in
     let w = c.in_ok-has_fault-2.ensures.wrote c.args.setting (sink c.args.writer.now) i.told.0
-        (c.in_ok-read.ensures.at c.args.setting i.told.0 i.told.2) told in
+    (c.in_ok-read.ensures.at c.args.setting i.told.0 i.told.2) told in
     absurd (false≢true (sym (settled_on c.args.setting true c.read.new.self.input.items c.write.new.self.fed w.0 c.in_ok-has_fault-2.field-0 c.in-None.is w.2).0))

@@ -8,9 +8,12 @@ pub yaml_fed_scan_to-why-requires-clause-at : goal.yaml_fed_scan_to-why-requires
 yaml_fed_scan_to-why-requires-clause-at c =
     let a = c.requires.at in
     let given = c.args.self.now.input.items in
-    let k = c.args.self.now.fed in
-    (p a.0 given k a.1 c.args.last a.2, given_now a.0 given k a.1 c.args.last a.2 ∙ sym c.deref.ensures.value, refl,
-    fed_now a.0 given k a.1 c.args.last a.2)
+    let k = c.args.self.now.fed in (
+      p a.0 given k a.1 c.args.last a.2,
+      given_now a.0 given k a.1 c.args.last a.2 ∙ sym c.deref.ensures.value,
+      refl,
+      fed_now a.0 given k a.1 c.args.last a.2,
+    )
 
 pub returns-clause-listed : goal.returns-clause-listed
 returns-clause-listed c s told at =

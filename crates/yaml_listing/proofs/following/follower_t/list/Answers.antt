@@ -1,5 +1,5 @@
 -- The lines are those of the tokens and of the fault.
-use Rattle.std.proofs.Common.{◌++◌, ℕ, List, true, ap, ◌∙◌, refl, sym, subst, append_assoc}
+use Rattle.std.proofs.Common.{◌++◌, ℕ, List, true, ap, ◌∙◌, sym, subst, append_assoc}
 use Rattle.yaml_listing.specs.inside.Following.{IsListing}
 use Rattle.yaml_listing.specs.Listing.{fault_line}
 use Rattle.yaml_listing.proofs.Followed.{fault_listed, more_listed, over_listed}
@@ -9,7 +9,7 @@ pub list_fault-requires : goal.list_fault-requires
 list_fault-requires c =
     let a = c.requires.at in
     let w = fault_listed a.0 c.args.last c.args.self.now.input.items c.give.new.self.fed _ c.in_ok-lines.why c.in-FAULT.is
-        (c.in_ok-lines.ensures.listed a.0 a.1 a.2) in
+    (c.in_ok-lines.ensures.listed a.0 a.1 a.2) in
     (w.0, w.1)
 
 pub returns-in-OVER-clause-settled : goal.returns-in-OVER-clause-settled

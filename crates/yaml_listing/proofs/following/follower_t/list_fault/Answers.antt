@@ -1,5 +1,5 @@
 -- The fault that is told is the one that ended the session.
-use Rattle.std.proofs.Common.{◌≡◌, ◌++◌, Some, ℕ, List, Option, ap, subst, sym, ◌∙◌}
+use Rattle.std.proofs.Common.{◌≡◌, ◌++◌, subst, sym, ◌∙◌}
 use Rattle.std.specs.Prelude.{OnOk}
 use Rattle.yaml_text.specs.Fault.{Fault, fault_of}
 use Rattle.yaml_scan.specs.Words.{HasLine}

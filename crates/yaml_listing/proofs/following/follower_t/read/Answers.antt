@@ -1,5 +1,5 @@
 -- What was written so far begins the listing, whatever is read.
-use Rattle.std.proofs.Common.{◌++◌, ℕ, List, false, sym, subst, take}
+use Rattle.std.proofs.Common.{ℕ, List, false, sym, subst}
 use Rattle.yaml_listing.specs.inside.Following.{IsAt}
 use Rattle.yaml_listing.proofs.Followed.{at_begins, more_read, on_error, settled_begins}
 use Rattle.yaml_listing.proofs.following.follower_t.read.Goals as goal
