@@ -316,4 +316,6 @@ if __name__ == "__main__":
     from lib.usage import answer_questions
 
     answer_questions()
+    # If this runs in the background, the keyboard's interrupt may be ignored, by the programs that it starts too.
+    signal.signal(signal.SIGINT, signal.default_int_handler)
     sys.exit(main())
