@@ -1,27 +1,34 @@
 -- What is written of an input that is followed begins its listing, and at the end is all of it.
-use Rattle.std.proofs.Common.{◌≡◌, ◌⊎◌, ◌++◌, [], ◌∷◌, ℕ, zero, suc, Bool, true, false, List, Option, None, Some, length, length-append, take, drop, refl, sym, ap, ◌∙◌, subst, arith, inl, inr, append-nil, append_assoc}
+use Rattle.std.proofs.Common.{◌≡◌, ◌≢◌, ◌≤◌, ◌⊎◌, ◌++◌, [], ◌∷◌, ℕ, zero, suc, Bool, true, false, List, Option, None, Some, length, length-append, take, drop, refl, sym, ap, ◌∙◌, subst, arith, inl, inr, append-nil, append_assoc}
 use Rattle.std.proofs.Math.Seq.{take-add}
-use Rattle.std.specs.Prelude.{is_some, Result, Ok, Err, IsErr, OnErr, MatchResult}
+use Rattle.std.specs.Prelude.{is_some, Result, Ok, Err, IfErr, IsErr, IsErrAnd, MatchResult}
+use Rattle.yaml_text.specs.Decode.{encoding_of}
 use Rattle.yaml_text.specs.declared.types.yaml_encoding_t.{yaml_encoding_t}
+use Rattle.yaml_text.specs.declared.types.yaml_encoding_t.TheVariants.{YAML_UTF8_ENCODING}
 use Rattle.yaml_text.specs.Fault.{Fault, memory_fault}
 use Rattle.yaml_text.specs.Token.{Token}
 use Rattle.yaml_scan.specs.All.{AllOf}
-use Rattle.yaml_scan.specs.Answers.{Answers}
+use Rattle.yaml_scan.specs.Answers.{Answers, answers}
 use Rattle.yaml_scan.specs.Begins.{Begins}
 use Rattle.yaml_scan.specs.Fed.{EndsBy, Fed, HasTakenAll, MayBe, Why, comes}
 use Rattle.yaml_scan.specs.Fed.Why.{MORE, WHOLE, OVER}
 use Rattle.yaml_scan.specs.FedCalls.{GivesFed, HasNoRoom, IsWhy}
 use Rattle.yaml_scan.specs.Inputs.{answers_to}
+use Rattle.yaml_scan.specs.Pieces.{is_known, unfinished}
 use Rattle.yaml_scan.specs.Words.{HasLine}
 use Rattle.yaml_scan.specs.declared.fed.yaml_fed_parser_t.{yaml_fed_parser_t}
 use Rattle.yaml_scan.specs.declared.fed.yaml_fed_t.{yaml_fed_t}
 use Rattle.yaml_scan.specs.declared.fed.yaml_fed_t.TheVariants as code
 use Rattle.yaml_scan.specs.inside.Feeding.{IsFed}
 use Rattle.yaml_scan.proofs.RunningCalls.FedGives.{more_comes}
+use Rattle.yaml_scan.proofs.Texts.InputPieces.{pieces_go_on}
 use Rattle.yaml_scan.proofs.SessionCalls.ListWords.{reads_have_lines}
 use Rattle.yaml_listing.specs.Args.{usual_key_limit}
+use Rattle.yaml_listing.specs.Follow.{ListsSettled}
 use Rattle.yaml_listing.specs.Listing.{fault_line, fault_lines, token_lines}
-use Rattle.yaml_listing.specs.inside.Following.{EndsByFault, IsAt, IsBeginning, IsListing, Listed, Settled}
+use Rattle.yaml_listing.specs.inside.Following.{EndsByFault, IsAt, IsBeginning, IsListing, Listed, Settled, SettledAll, Wrote}
+use Rattle.yaml_listing.specs.declared.outcome.tool_fault_t.{tool_fault_t}
+use Rattle.yaml_listing.specs.declared.outcome.tool_fault_t.TheVariants.{Memory, Read, Write}
 use Rattle.yaml_listing.specs.inside.TokenLines.{lines_split}
 
 -- BEGINNINGS
@@ -102,6 +109,44 @@ pub settled_on : (s : yaml_encoding_t) (last : Bool) (given : List ℕ) (k : yam
     → told ≡ None → Settled s last given k lines told → (last ≡ false) × IsAt s given k lines
 settled_on s last given k lines told e w = subst (λ (d : Option Bool). Settled s last given k lines d) e w
 
+-- WHAT IS SETTLED
+settled_so_far : (s : yaml_encoding_t) (given : List ℕ)
+    → Begins (answers usual_key_limit (unfinished s given)).tokens (answers_to usual_key_limit s given).tokens
+settled_so_far s given = subst (λ (z : List ℕ). Begins (answers usual_key_limit (unfinished s given)).tokens (answers_to usual_key_limit s z).tokens)
+    (append-nil given) (pieces_go_on usual_key_limit s given []).0
+
+-- as many items of a list or more, beyond its front
+past_front : {A : Type 0} (us r : List A) (n : ℕ) → length us ≤ n → (rest : List A) × (take n (us ++ r) ≡ us ++ rest)
+past_front [] r n p = (take n r, refl)
+past_front (u ∷ us) r zero p = absurd (omega (arith, p))
+past_front {A = A} (u ∷ us) r (suc n) p = let w = past_front us r n (omega (arith, p)) in (w.0, ap (λ (z : List A). u ∷ z) w.1)
+
+-- some of the first items begin more of them
+begins_more : (us xs all : List Token) → Begins us all → xs ≡ take (length xs) all → length us ≤ length xs → Begins us xs
+begins_more us xs all b e less =
+    let w = past_front us b.rest (length xs) less in
+    record { rest = w.0; is = e ∙ ap (λ (z : List Token). take (length xs) z) b.is ∙ w.1 }
+
+begins_lines : (xs ys : List Token) → Begins xs ys → Begins (token_lines xs) (token_lines ys)
+begins_lines xs ys b = record { rest = token_lines b.rest; is = ap token_lines b.is ∙ lines_split xs b.rest }
+
+-- a listing has all that is settled
+pub listing_settled : (s : yaml_encoding_t) (last : Bool) (given lines : List ℕ) (has_fault : Bool) → IsListing s last given lines has_fault
+    → ListsSettled s given lines
+listing_settled s last given lines has_fault all =
+    let l = all given (may_be_all last given) in
+    let a = answers_to usual_key_limit s given in
+    let so_far = (answers usual_key_limit (unfinished s given)).tokens in
+    elim l.answers [
+      | inl w ↦ inl (subst (λ (z : List ℕ). Begins (token_lines so_far) z)
+          (sym (l.lines_are ∙ ap (λ (z : List Token). token_lines z ++ fault_lines l.fault) w.0))
+          (lines_begin so_far a.tokens l.fault (settled_so_far s given)))
+      | inr w ↦ inr (inl (record {
+        before = token_lines l.tokens;
+        is = l.lines_are ∙ ap (λ (z : Option Fault). token_lines l.tokens ++ fault_lines z) w.1;
+      }))
+    ]
+
 -- or a part of it
 pub part_begins : (s : yaml_encoding_t) (last : Bool) (given told lines : List ℕ) (n : ℕ) → IsBeginning s last given (told ++ lines)
     → IsBeginning s last given (told ++ take n lines)
@@ -112,15 +157,26 @@ part_begins s last given told lines n b input m = let l = b input m in record {
   begins = begins_less told lines l.all n l.begins;
 }
 
+-- what was written of all that is settled
+pub wrote_some : (s : yaml_encoding_t) (last : Bool) (given : List ℕ) (k : yaml_fed_parser_t) (start end : Option (List ℕ))
+    (r : Result (Option Bool) tool_fault_t) → Wrote SettledAll s last given k start end r → Wrote Settled s last given k start end r
+wrote_some s last given k start end (Ok told) w = (w.0, w.1, w.2.0)
+wrote_some s last given k start end (Err fault) w = w
+
 -- RESULTS
 -- an error has what all errors have
 pub by_error : {A E : Type 0} (r : Result A E) (P : A → Type 0) (Q : Type 0) → IsErr r → Q → MatchResult r P (λ _. Q)
 by_error (Ok x) P Q e q = absurd (cc (e))
 by_error (Err x) P Q e q = q
 
-pub on_error : {A E : Type 0} (r : Result A E) (Q : Type 0) → Q → OnErr r Q
-on_error (Ok x) Q q = tt
-on_error (Err x) Q q = q
+pub if_error : {A E : Type 0} (r : Result A E) (Q P : E → Type 0) → IsErrAnd r Q → ((y : E) → Q y → P y) → IfErr r P
+if_error (Ok x) Q P h f = absurd h
+if_error (Err y) Q P h f = f y h
+
+-- a write or memory failed, and no read
+pub no_read : (y f : tool_fault_t) → y ≡ f → (f ≡ Write) ⊎ (f ≡ Memory) → y ≡ Read → ⊥
+no_read y f h (inl write) e = let k : Write ≡ Read = sym write ∙ sym h ∙ e in cc
+no_read y f h (inr memory) e = let k : Memory ≡ Read = sym memory ∙ sym h ∙ e in cc
 
 -- what was listed, by what the parser says
 pub over_listed : (s : yaml_encoding_t) (last : Bool) (given : List ℕ) (k : yaml_fed_parser_t) (lines : List ℕ) (r : yaml_fed_t)
@@ -133,7 +189,7 @@ pub fault_listed : (s : yaml_encoding_t) (last : Bool) (given : List ℕ) (k : y
 fault_listed s last given k lines r e w = subst (λ (x : yaml_fed_t). Listed s last given k lines x) e w
 
 pub more_listed : (s : yaml_encoding_t) (last : Bool) (given : List ℕ) (k : yaml_fed_parser_t) (lines : List ℕ) (r : yaml_fed_t)
-    → (r ≡ code.OVER → ⊥) → (r ≡ code.FAULT → ⊥) → Listed s last given k lines r → (last ≡ false) × IsAt s given k lines
+    → (r ≡ code.OVER → ⊥) → (r ≡ code.FAULT → ⊥) → Listed s last given k lines r → (last ≡ false) × IsAt s given k lines × ListsSettled s given lines
 more_listed s last given k lines code.OVER a b w = absurd (a refl)
 more_listed s last given k lines code.FAULT a b w = absurd (b refl)
 more_listed s last given k lines code.ROOM a b w = w
@@ -274,9 +330,28 @@ module _ (s : yaml_encoding_t) (given : List ℕ) (k : yaml_fed_parser_t) (told 
       lines_are = all_lines;
     }
 
-    goes_on : (w : Why) → EndsBy p q w → (w ≡ MORE) ⊎ (w ≡ WHOLE) → (last ≡ false) × IsAt s given l (told ++ lines)
-    goes_on w ends (inl e) = let z = subst (λ (x : Why). EndsBy p q x) e ends in (z.1, on z.0 z.1)
-    goes_on w ends (inr e) = let z = subst (λ (x : Why). EndsBy p q x) e ends in (z.1, on z.0 z.1)
+    -- all that is settled was given
+    abbrev so_far : List Token
+    so_far = (answers usual_key_limit (unfinished s given)).tokens
+
+    same_so_far : (answers p.limit (unfinished p.setting p.given)).tokens ≡ so_far
+    same_so_far = λ j. (answers (at.limit j) (unfinished (at.setting_is j) (given_now j))).tokens
+
+    settled : length (answers p.limit (unfinished p.setting p.given)).tokens ≤ q.session.taken → ListsSettled s given (told ++ lines)
+    settled few =
+        let less : length so_far ≤ length all = (let n = ap length same_so_far in let c = count in omega (arith, few)) in
+        inl (subst (λ (z : List ℕ). Begins (token_lines so_far) z) (sym all_lines)
+        (begins_lines so_far all (begins_more so_far all (answers_to usual_key_limit s given).tokens (settled_so_far s given)
+        (first given (may_be_all last given)) less)))
+
+    in_utf16 : (is_known p.setting p.given ≡ true) × (encoding_of p.setting p.given ≢ YAML_UTF8_ENCODING) → ListsSettled s given (told ++ lines)
+    in_utf16 w = inr (inr (subst (λ (z : List ℕ). (is_known s z ≡ true) × (encoding_of s z ≢ YAML_UTF8_ENCODING)) given_now
+        (subst (λ (z : yaml_encoding_t). (is_known z p.given ≡ true) × (encoding_of z p.given ≢ YAML_UTF8_ENCODING)) at.setting_is w)))
+
+    goes_on : (w : Why) → EndsBy p q w → (w ≡ MORE) ⊎ (w ≡ WHOLE)
+        → (last ≡ false) × IsAt s given l (told ++ lines) × ListsSettled s given (told ++ lines)
+    goes_on w ends (inl e) = let z = subst (λ (x : Why). EndsBy p q x) e ends in (z.1, on z.0 z.1, settled z.2.tokens)
+    goes_on w ends (inr e) = let z = subst (λ (x : Why). EndsBy p q x) e ends in (z.1, on z.0 z.1, in_utf16 (z.2, z.3))
 
     no_room : HasNoRoom lacks q → ⊥
     no_room (inl w) = none 1 0 w

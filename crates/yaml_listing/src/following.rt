@@ -3,10 +3,10 @@ ghost use Rattle.std.specs.Prelude.{◌≡◌, ◌≢◌, ◌++◌, ◌<◌, ◌
 ghost use Rattle.std.specs.Io.KnownBytes.{Appends, Consumes, IsAtEnd};
 ghost use Rattle.yaml_text.specs.Fault.{Fault};
 ghost use Rattle.yaml_text.specs.declared.types.yaml_encoding_t.{yaml_encoding_t as setting_t};
-ghost use Rattle.yaml_listing.specs.Follow.{FollowsAll, FollowsSome};
+ghost use Rattle.yaml_listing.specs.Follow.{FollowsAll, FollowsSome, ListsSettled};
 ghost use Rattle.yaml_listing.specs.Listing.{fault_line};
 ghost use Rattle.yaml_listing.specs.Outcome.{is_read_fault, is_write_fault};
-ghost use Rattle.yaml_listing.specs.inside.Following.{EndsByFault, IsAt, IsBeginning, Listed, Settled, Wrote};
+ghost use Rattle.yaml_listing.specs.inside.Following.{EndsByFault, IsAt, IsBeginning, Listed, Settled, SettledAll, Wrote};
 
 use crate::answer::{KEY_LIMIT, token_lines_t};
 use crate::devices::{yaml_sink_t, yaml_source_t};
@@ -171,7 +171,7 @@ impl follower_t {
     fn list(&mut self, last: bool) -> Result<(Vec<u8>, Option<bool>), tool_fault_t>
         requires at { (setting : setting_t) × (told : List ℕ) × IsAt setting self.old.input.items self.old.fed told }
         ensures settled { (setting : setting_t) (told : List ℕ) → IsAt setting self.old.input.items self.old.fed told
-            → IfOk result (λ r. Settled setting last self.old.input.items self.new.fed (told ++ r.0.items) r.1) }
+            → IfOk result (λ r. SettledAll setting last self.old.input.items self.new.fed (told ++ r.0.items) r.1) }
         ensures same { self.new.input.items ≡ self.old.input.items }
         ensures fault { IfErr result (λ fault. fault ≡ tool_fault_t.Memory) }
     {
@@ -197,7 +197,7 @@ impl follower_t {
         requires working { W.failed writer.old ≡ false }
         ensures wrote { (setting : setting_t) (start : Option (List ℕ)) (told : List ℕ)
             → IsAt setting self.old.input.items self.old.fed told → Appends start (W.contents writer.old) told
-            → Wrote setting last self.old.input.items self.new.fed start (W.contents writer.new) result }
+            → Wrote SettledAll setting last self.old.input.items self.new.fed start (W.contents writer.new) result }
         ensures same { self.new.input.items ≡ self.old.input.items }
         ensures faults { IfErr result (λ fault. (fault ≡ tool_fault_t.Write) ⊎ (fault ≡ tool_fault_t.Memory)) }
         ensures write { is_write_fault result ≡ W.failed writer.new }
@@ -229,16 +229,19 @@ impl follower_t {
         ensures unwritten { OnOk result (writer.new ≡ writer.old) }
         ensures cut { (setting : setting_t) (start : Option (List ℕ)) (told : List ℕ)
             → IsAt setting self.old.input.items self.old.fed told → Appends start (W.contents writer.old) told
-            → OnErr result ((lines : List ℕ) × Appends start (W.contents writer.new) lines
-            × IsBeginning setting false self.old.input.items lines) }
+            → IfErr result (λ fault. (lines : List ℕ) × Appends start (W.contents writer.new) lines
+            × IsBeginning setting false self.old.input.items lines
+            × (fault ≡ tool_fault_t.Read → ListsSettled setting self.old.input.items lines)) }
         ensures faults { IfErr result (λ fault. fault ≢ tool_fault_t.Args) }
         ensures read { is_read_fault result ≡ true → R.failed reader.new ≡ true }
         ensures failed { OnOk result (R.failed reader.new ≡ false) }
         ensures write { is_write_fault result ≡ W.failed writer.new }
     {
         let Ok(count) = reader.pull(buffer) else {
-            self.write(false, writer)?;
-            return Err(tool_fault_t::Read);
+            return match self.write(false, writer) {
+                Ok(_) => Err(tool_fault_t::Read),
+                Err(fault) => Err(fault),
+            };
         };
         self.input.extend_from_slice(&buffer[..count])?;
         Ok(count > 0)
@@ -250,7 +253,7 @@ impl follower_t {
         requires working { W.failed writer.old ≡ false }
         ensures wrote { (setting : setting_t) (start : Option (List ℕ)) (told : List ℕ)
             → IsAt setting self.old.input.items self.old.fed told → Appends start (W.contents writer.old) told
-            → Wrote setting false self.old.input.items self.new.fed start (W.contents writer.new) result }
+            → Wrote Settled setting false self.old.input.items self.new.fed start (W.contents writer.new) result }
         ensures same { self.new.input.items ≡ self.old.input.items }
         ensures faults { IfErr result (λ fault. (fault ≡ tool_fault_t.Write) ⊎ (fault ≡ tool_fault_t.Memory)) }
         ensures write { is_write_fault result ≡ W.failed writer.new }
@@ -288,7 +291,7 @@ pub fn follow<R: yaml_source_t, W: yaml_sink_t>(
     requires writer { W.failed writer.old ≡ false }
     ensures done { IfOk result (λ has_fault. FollowsAll setting (R.remaining reader.old) (R.remaining reader.new)
         (W.contents writer.old) (W.contents writer.new) has_fault) }
-    ensures cut { OnErr result (FollowsSome setting (R.remaining reader.old)
+    ensures cut { IfErr result (λ fault. FollowsSome setting fault (R.remaining reader.old)
         (W.contents writer.old) (W.contents writer.new)) }
     ensures faults { IfErr result (λ fault. fault ≢ tool_fault_t.Args) }
     ensures read { is_read_fault result ≡ true → R.failed reader.new ≡ true }

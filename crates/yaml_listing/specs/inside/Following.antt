@@ -13,7 +13,7 @@ use Rattle.yaml_scan.specs.declared.fed.yaml_fed_t.{yaml_fed_t}
 use Rattle.yaml_scan.specs.declared.fed.yaml_fed_t.TheVariants.{OVER, FAULT}
 use Rattle.yaml_scan.specs.inside.Feeding.{IsFed}
 use Rattle.yaml_listing.specs.Args.{usual_key_limit}
-use Rattle.yaml_listing.specs.Follow.{BeginsListing, ListsOn}
+use Rattle.yaml_listing.specs.Follow.{BeginsListing, ListsOn, ListsSettled}
 use Rattle.yaml_listing.specs.Listing.{fault_line, token_lines}
 use Rattle.yaml_listing.specs.declared.outcome.tool_fault_t.{tool_fault_t}
 
@@ -52,7 +52,7 @@ abbrev pub Listed
 Listed setting whole given k lines OVER = IsListing setting whole given lines false
 Listed setting whole given k lines FAULT =
     (fault : Fault) × EndsByFault k fault × IsListing setting whole given (lines ++ fault_line fault) true
-Listed setting whole given k lines why = (whole ≡ false) × IsAt setting given k lines
+Listed setting whole given k lines why = (whole ≡ false) × IsAt setting given k lines × ListsSettled setting given lines
 
 -- What holds once no more tokens are settled: more may come, or all is listed.
 abbrev pub Settled
@@ -61,9 +61,15 @@ Settled setting whole given k lines done = MatchOption done
     ((whole ≡ false) × IsAt setting given k lines)
     (λ has_fault. IsListing setting whole given lines has_fault)
 
+-- and all that is settled was listed
+abbrev pub SettledAll
+    : yaml_encoding_t → Bool → List ℕ → yaml_fed_parser_t → List ℕ → Option Bool → Type 0
+SettledAll setting whole given k lines done =
+    Settled setting whole given k lines done × ListsSettled setting given lines
+
 -- After the lines told so far, more lines were written: so many as were settled, or a beginning of these if the write
 -- failed, or none if memory was refused.
 abbrev pub Wrote
-    : yaml_encoding_t → Bool → List ℕ → yaml_fed_parser_t → (start end : Option (List ℕ)) → Result (Option Bool) tool_fault_t → Type 0
-Wrote setting whole given k start end result = (lines : List ℕ) × Appends start end lines
-    × MatchResult result (λ done. Settled setting whole given k lines done) (λ _. IsBeginning setting whole given lines)
+    : (yaml_encoding_t → Bool → List ℕ → yaml_fed_parser_t → List ℕ → Option Bool → Type 0) → yaml_encoding_t → Bool → List ℕ → yaml_fed_parser_t → (start end : Option (List ℕ)) → Result (Option Bool) tool_fault_t → Type 0
+Wrote Holds setting whole given k start end result = (lines : List ℕ) × Appends start end lines
+    × MatchResult result (λ done. Holds setting whole given k lines done) (λ _. IsBeginning setting whole given lines)

@@ -1,10 +1,10 @@
 -- What is read and written, read by read.
-use Rattle.std.proofs.Common.{ℕ, List, false, true, sym, subst}
+use Rattle.std.proofs.Common.{ℕ, List, false, true, sym, subst, ◌∙◌}
 use Rattle.std.proofs.KnownBytes.{Consumes-trans}
 use Rattle.std.proofs.lemmas.Bool.{false≢true}
 use Rattle.std.specs.Io.KnownBytes.{Appends, Consumes}
 use Rattle.yaml_listing.specs.inside.Following.{IsAt}
-use Rattle.yaml_listing.proofs.Followed.{on_error, settled_all, settled_on}
+use Rattle.yaml_listing.proofs.Followed.{if_error, no_read, settled_all, settled_on}
 use Rattle.yaml_listing.proofs.following.follow.Goals as goal
 
 -- A read fails: what was read before it is all.
@@ -13,7 +13,7 @@ returns-in_err-read-clause-cut g c =
     let i = c.loop-follower.invariant in
     let start = g.W.yaml_sink_t.contents c.args.writer.now in
     let w = c.in_err-read.ensures.cut c.args.setting start i.told.0 i.told.2 i.told.1 in
-    on_error c.from_residual.result _ (record {
+    if_error c.from_residual.result _ _ c.from_residual.ensures.1 (λ y h. record {
       given = c.loop-follower.follower.input.items;
       left = g.R.yaml_source_t.remaining c.loop-follower.reader;
       read = i.read;
@@ -22,6 +22,7 @@ returns-in_err-read-clause-cut g c =
       lines = w.0;
       written = w.1;
       begins = w.2;
+      settled = λ e. w.3 (sym h ∙ e);
     })
 
 pub go_on-requires-clause-at : goal.go_on-requires-clause-at
@@ -40,7 +41,7 @@ returns-in_err-has_fault-clause-cut g c =
     let told = subst (λ z. Appends (sink c.args.writer.now) (sink z) i.told.0) (sym c.in_ok-read.ensures.unwritten) i.told.1 in
     let w = c.in_err-has_fault.ensures.wrote c.args.setting (sink c.args.writer.now) i.told.0
     (c.in_ok-read.ensures.at c.args.setting i.told.0 i.told.2) told in
-    on_error c.from_residual-in_err-has_fault.result _ (record {
+    if_error c.from_residual-in_err-has_fault.result _ _ c.from_residual-in_err-has_fault.ensures.1 (λ y h. record {
       given = c.read.new.self.input.items;
       left = source c.read.new.reader;
       read = read;
@@ -49,6 +50,7 @@ returns-in_err-has_fault-clause-cut g c =
       lines = w.0;
       written = w.1;
       begins = w.2;
+      settled = λ e. absurd (no_read y c.in_err-has_fault.field-0.0 h c.in_err-has_fault.ensures.faults e);
     })
 
 pub returns-in-Some-clause-done : goal.returns-in-Some-clause-done
@@ -112,7 +114,7 @@ returns-in_err-has_fault-2-clause-cut g c =
     let told = subst (λ z. Appends (sink c.args.writer.now) (sink z) i.told.0) (sym c.in_ok-read.ensures.unwritten) i.told.1 in
     let w = c.in_err-has_fault-2.ensures.wrote c.args.setting (sink c.args.writer.now) i.told.0
     (c.in_ok-read.ensures.at c.args.setting i.told.0 i.told.2) told in
-    on_error c.from_residual-in_err-has_fault-2.result _ (record {
+    if_error c.from_residual-in_err-has_fault-2.result _ _ c.from_residual-in_err-has_fault-2.ensures.1 (λ y h. record {
       given = c.read.new.self.input.items;
       left = source c.read.new.reader;
       read = read;
@@ -121,6 +123,7 @@ returns-in_err-has_fault-2-clause-cut g c =
       lines = w.0;
       written = w.1;
       begins = w.2;
+      settled = λ e. absurd (no_read y c.in_err-has_fault-2.field-0.0 h c.in_err-has_fault-2.ensures.faults e);
     })
 
 pub returns-in-Some-2-clause-done : goal.returns-in-Some-2-clause-done
@@ -141,7 +144,7 @@ returns-in-Some-2-clause-done g c =
       end = λ e. c.in_ok-read.ensures.end c.if-branch.false;
       lines = w.0;
       written = w.1;
-      listed = settled_all c.args.setting true c.read.new.self.input.items c.write.new.self.fed w.0 c.in_ok-has_fault-2.field-0 c.in-Some-2.has_fault c.in-Some-2.is w.2;
+      listed = settled_all c.args.setting true c.read.new.self.input.items c.write.new.self.fed w.0 c.in_ok-has_fault-2.field-0 c.in-Some-2.has_fault c.in-Some-2.is w.2.0;
     }
 
 pub returns-clause-done : goal.returns-clause-done
@@ -155,4 +158,4 @@ returns-clause-done g c =
     let told = subst (λ z. Appends (sink c.args.writer.now) (sink z) i.told.0) (sym c.in_ok-read.ensures.unwritten) i.told.1 in
     let w = c.in_ok-has_fault-2.ensures.wrote c.args.setting (sink c.args.writer.now) i.told.0
     (c.in_ok-read.ensures.at c.args.setting i.told.0 i.told.2) told in
-    absurd (false≢true (sym (settled_on c.args.setting true c.read.new.self.input.items c.write.new.self.fed w.0 c.in_ok-has_fault-2.field-0 c.in-None.is w.2).0))
+    absurd (false≢true (sym (settled_on c.args.setting true c.read.new.self.input.items c.write.new.self.fed w.0 c.in_ok-has_fault-2.field-0 c.in-None.is w.2.0).0))

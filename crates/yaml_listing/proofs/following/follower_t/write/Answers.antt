@@ -27,7 +27,7 @@ returns-in_err-write_all-clause-wrote g c s start told at app =
       Appends-trans start (sink.contents c.args.writer.now) (sink.contents c.write_all.new.writer) told (take part.0 lines) app more,
       by_error c.from_residual-in_err-write_all.result _ _ c.from_residual-in_err-write_all.ensures.0
           (part_begins s last given told lines part.0
-          (settled_begins s last given c.list.new.self.fed (told ++ lines) c.in_ok-lines.done settled)),
+          (settled_begins s last given c.list.new.self.fed (told ++ lines) c.in_ok-lines.done settled.0)),
     )
 
 pub returns-clause-wrote : goal.returns-clause-wrote
