@@ -3,6 +3,7 @@ ghost use Rattle.std.specs.Prelude.{◌≡◌, ◌≢◌, ◌≤◌, ◌↔◌, 
 ghost use Rattle.yaml_text.specs.Fault.{Fault, fault_of};
 ghost use Rattle.yaml_scan.specs.Fed.{Fed};
 ghost use Rattle.yaml_scan.specs.declared.fed.yaml_fed_t.TheVariants as code;
+ghost use Rattle.yaml_scan.specs.FedCalls.{GivesFed};
 ghost use Rattle.yaml_scan.specs.inside.Feeding.{IsFed};
 ghost use Rattle.yaml_c.specs.Ahead.{Ahead, IsAhead};
 ghost use Rattle.yaml_c.specs.Ahead.Ahead.{READ_FAULT};
@@ -24,7 +25,10 @@ use crate::sink::token_rooms_t;
 use crate::spelled::spelled_t;
 use crate::status::{DONE, FAULT, MORE, NO_ROOM, OVER, WHOLE};
 use std::alloc::{AllocError, Global};
-use yaml_scan::{yaml_encoding_t, yaml_fault_t, yaml_fed_parser_t, yaml_fed_scan_to, yaml_fed_t};
+use yaml_scan::{
+    yaml_encoding_t, yaml_fault_t, yaml_fed_parser_t, yaml_fed_scan_to, yaml_fed_t,
+    yaml_lent_scalar_t, yaml_token_sink_t, yaml_token_t,
+};
 
 /// What is held: a parser without its input, what was read ahead, how many bytes had come by the last call and whether
 /// these were all, and the list of a text that was given, whose room is used again.
@@ -74,6 +78,72 @@ pub(crate) fn is_window(held: &held_pieces_t, from: u64, len: u64, last: bool) -
     from == 0 && held.came <= len
 }
 
+/// A sink that is another type than the one behind it. What gives tokens to a sink is code of its own for each type of
+/// sinks. So the code that a call for a whole input has is called in one place, and inlined there.
+#[derive(Drop)]
+struct apart_t<'a, S> {
+    sink: &'a mut S,
+}
+
+impl<S: yaml_token_sink_t> yaml_token_sink_t for apart_t<'_, S> {
+    ghost use Rattle.std.specs.Prelude.{◌≡◌};
+    ghost use Rattle.yaml_c.specs.inside.MorePut.{same_name, same_names};
+
+    ghost took = { λ a tokens b. (b.sink.ghost_name ≡ a.sink.ghost_name) × S.took a.sink.now tokens b.sink.now };
+
+    ghost may_refuse = { S.may_refuse };
+
+    ghost within = { λ s. S.within s.sink.now };
+
+    ghost lacks = { λ s count texts. S.lacks s.sink.now count texts };
+
+    #[inline(always)]
+    fn put(&mut self, token: yaml_token_t) -> Result<(), AllocError> {
+        self.sink.put(token)
+    }
+
+    #[inline(always)]
+    fn put_scalar(&mut self, scalar: &yaml_lent_scalar_t) -> Result<(), AllocError> {
+        self.sink.put_scalar(scalar)
+    }
+
+    #[inline(always)]
+    fn room(&mut self, alloc: Global) -> Vec<u8> {
+        self.sink.room(alloc)
+    }
+
+    #[inline(always)]
+    fn has_room(&self, count: u128, texts: u128) -> bool {
+        self.sink.has_room(count, texts)
+    }
+
+    ghost took_none = { λ s. (same_name s.sink.ghost_name, S.took_none s.sink.now) };
+
+    ghost took_more = { λ a b c xs ys e f. (
+      same_names a.sink.ghost_name b.sink.ghost_name c.sink.ghost_name e.0 f.0,
+      S.took_more a.sink.now b.sink.now c.sink.now xs ys e.1 f.1,
+    ) };
+
+    ghost within_none = { λ a b e w. S.within_none a.sink.now b.sink.now e.1 w };
+}
+
+/// Gives the next tokens of what came to a sink. Returns why no more are given.
+fn scan_to<S: yaml_token_sink_t>(
+    parser: &mut yaml_fed_parser_t,
+    window: &[u8],
+    last: bool,
+    sink: &mut S,
+) -> yaml_fed_t
+    requires at { (p : Fed) × (p.given ≡ window.now) × (p.whole ≡ last) × IsFed p parser.old }
+    requires takes { S.may_refuse → ⊥ }
+    ensures gives { (p : Fed) → p.given ≡ window.now → p.whole ≡ last → IsFed p parser.old
+        → GivesFed p parser.new result (λ tokens. S.took sink.old tokens sink.new) (S.lacks sink.new) }
+    ensures within { S.within sink.old → S.within sink.new }
+{
+    let mut apart = apart_t { sink };
+    yaml_fed_scan_to(parser, window, last, &mut apart)
+}
+
 /// Gives the next tokens, whole ones, until a room is full or more has to come, or up to the end or the fault. If the
 /// fault comes next already, none are given. Returns why no more are given.
 fn give(
@@ -97,7 +167,7 @@ fn give(
     if let ahead_t::FAULT = ahead {
         return yaml_fed_t::FAULT;
     }
-    let why = yaml_fed_scan_to(parser, window, last, rooms);
+    let why = scan_to(parser, window, last, rooms);
     match why {
         yaml_fed_t::FAULT => *ahead = ahead_t::FAULT,
         yaml_fed_t::OVER => *ahead = ahead_t::OVER,

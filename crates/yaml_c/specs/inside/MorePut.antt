@@ -1,6 +1,6 @@
 -- If some tokens are put, and others after them, all are put: what a sink has to show of what it took. These are
 -- proofs, and stand here since a member of a trait can cite only what is in specs.
-use Rattle.std.proofs.Common.{◌++◌, [], ◌∷◌, List, refl, ◌∙◌}
+use Rattle.std.proofs.Common.{◌++◌, [], ◌∷◌, List, refl, ◌∙◌, ℕ, ◌≡◌}
 use Rattle.yaml_text.specs.Token.{Token}
 use Rattle.yaml_c.specs.inside.Sink.{ArePut, IsBeside, IsPut, IsWithin}
 use Rattle.yaml_c.specs.declared.sink.token_rooms_t.{token_rooms_t}
@@ -44,3 +44,10 @@ more_put a b c (x ∷ xs) ys e f = (e.0, e.1, more_put e.0 b c xs ys e.2 f)
 
 pub within_none : (a b : token_rooms_t) → IsBeside a b → IsWithin a → IsWithin b
 within_none a b e w = record { few = rw (e.token_count, e.tokens) w.few; fit = rw (e.text_len, e.texts) w.fit }
+
+-- A sink behind a name keeps the name.
+pub same_name : (x : ℕ) → x ≡ x
+same_name x = refl
+
+pub same_names : (x y z : ℕ) → y ≡ x → z ≡ y → z ≡ x
+same_names x y z e f = f ∙ e

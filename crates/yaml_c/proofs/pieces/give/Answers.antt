@@ -4,10 +4,10 @@ use Rattle.yaml_c.specs.declared.held.ahead_t.{ahead_t}
 use Rattle.yaml_c.proofs.PieceTokens.{end_given, fault_given, fault_next, is_none, rest_given, runs_on}
 use Rattle.yaml_c.proofs.TokensPut.{Fits, same_rooms}
 use Rattle.yaml_c.proofs.pieces.give.Goals as goal
-use Rattle.yaml_c.proofs.pieces.give.Goals.{After-yaml_fed_scan_to-why}
+use Rattle.yaml_c.proofs.pieces.give.Goals.{After-scan_to-why}
 
 -- the rooms are those of a new call
-fits_in : (c : After-yaml_fed_scan_to-why) → Fits c.args.rooms.now
+fits_in : (c : After-scan_to-why) → Fits c.args.rooms.now
 fits_in c =
     let a = c.args.rooms.now in
     let few : length a.tokens.now < 2 ^ 63 = search rules in
@@ -23,14 +23,14 @@ pub returns-in-FAULT-why : goal.returns-in-FAULT-why
 returns-in-FAULT-why c =
     let a = c.args.rooms.now in
     let r = c.requires in
-    let fits = fits_in (goal.at.returns-in-FAULT-why c).After-yaml_fed_scan_to-why in
-    let within = c.yaml_fed_scan_to-why.ensures.within (record { few = omega (arith, r.none); fit = omega (arith, r.no_text) }) in
-    let n = same_rooms _ _ _ (c.yaml_fed_scan_to-why.ensures.gives r.at.0.fed r.at.1 r.at.2 r.at.3.is).given in
+    let fits = fits_in (goal.at.returns-in-FAULT-why c).After-scan_to-why in
+    let within = c.scan_to-why.ensures.within (record { few = omega (arith, r.none); fit = omega (arith, r.no_text) }) in
+    let n = same_rooms _ _ _ (c.scan_to-why.ensures.gives r.at.0.fed r.at.1 r.at.2 r.at.3.is).given in
     record {
       same_tokens = n.tokens;
       same_texts = n.texts;
       same_spare = n.spare;
-      gives = λ s same last at. fault_given s a _ _ fits r.none r.no_text within _ c.in-FAULT-why.is (c.yaml_fed_scan_to-why.ensures.gives s.fed same last at.is);
+      gives = λ s same last at. fault_given s a _ _ fits r.none r.no_text within _ c.in-FAULT-why.is (c.scan_to-why.ensures.gives s.fed same last at.is);
     }
 
 -- the stream end was given
@@ -38,14 +38,14 @@ pub returns-in-OVER : goal.returns-in-OVER
 returns-in-OVER c =
     let a = c.args.rooms.now in
     let r = c.requires in
-    let fits = fits_in (goal.at.returns-in-OVER c).After-yaml_fed_scan_to-why in
-    let within = c.yaml_fed_scan_to-why.ensures.within (record { few = omega (arith, r.none); fit = omega (arith, r.no_text) }) in
-    let n = same_rooms _ _ _ (c.yaml_fed_scan_to-why.ensures.gives r.at.0.fed r.at.1 r.at.2 r.at.3.is).given in
+    let fits = fits_in (goal.at.returns-in-OVER c).After-scan_to-why in
+    let within = c.scan_to-why.ensures.within (record { few = omega (arith, r.none); fit = omega (arith, r.no_text) }) in
+    let n = same_rooms _ _ _ (c.scan_to-why.ensures.gives r.at.0.fed r.at.1 r.at.2 r.at.3.is).given in
     record {
       same_tokens = n.tokens;
       same_texts = n.texts;
       same_spare = n.spare;
-      gives = λ s same last at. end_given s a _ _ fits r.none r.no_text within _ (runs_on s _ _ at (is_none _ c.in_default.not-FAULT r.more)) c.in-OVER.is (c.yaml_fed_scan_to-why.ensures.gives s.fed same last at.is);
+      gives = λ s same last at. end_given s a _ _ fits r.none r.no_text within _ (runs_on s _ _ at (is_none _ c.in_default.not-FAULT r.more)) c.in-OVER.is (c.scan_to-why.ensures.gives s.fed same last at.is);
     }
 
 -- a room is full, or more has to come
@@ -53,14 +53,14 @@ pub returns-in_default-why : goal.returns-in_default-why
 returns-in_default-why c =
     let a = c.args.rooms.now in
     let r = c.requires in
-    let fits = fits_in (goal.at.returns-in_default-why c).After-yaml_fed_scan_to-why in
-    let within = c.yaml_fed_scan_to-why.ensures.within (record { few = omega (arith, r.none); fit = omega (arith, r.no_text) }) in
-    let n = same_rooms _ _ _ (c.yaml_fed_scan_to-why.ensures.gives r.at.0.fed r.at.1 r.at.2 r.at.3.is).given in
+    let fits = fits_in (goal.at.returns-in_default-why c).After-scan_to-why in
+    let within = c.scan_to-why.ensures.within (record { few = omega (arith, r.none); fit = omega (arith, r.no_text) }) in
+    let n = same_rooms _ _ _ (c.scan_to-why.ensures.gives r.at.0.fed r.at.1 r.at.2 r.at.3.is).given in
     let none = is_none _ c.in_default.not-FAULT r.more in
     record {
       same_tokens = n.tokens;
       same_texts = n.texts;
       same_spare = n.spare;
-      gives = λ s same last at. subst (λ (z : ahead_t). GivesTokens s a c.yaml_fed_scan_to-why.new.sink c.yaml_fed_scan_to-why.new.fed z c.yaml_fed_scan_to-why.result) (sym none)
-          (rest_given s a _ _ fits r.none r.no_text within _ (c.yaml_fed_scan_to-why.ensures.gives s.fed same last at.is) c.in_default-why.not-OVER c.in_default-why.not-FAULT);
+      gives = λ s same last at. subst (λ (z : ahead_t). GivesTokens s a c.scan_to-why.new.sink c.scan_to-why.new.parser z c.scan_to-why.result) (sym none)
+          (rest_given s a _ _ fits r.none r.no_text within _ (c.scan_to-why.ensures.gives s.fed same last at.is) c.in_default-why.not-OVER c.in_default-why.not-FAULT);
     }
