@@ -242,7 +242,7 @@ uint32_t bogzhami_open_pieces(struct bogzhami_handle *handle, uint32_t encoding,
  *
  * The window is what the caller has of the input: its bytes from the number `from` on. *needed_from is from which byte on the next
  * call needs it, and `from` is at most that. In this version it is 0: a window is all that came. `last` says that no more will
- * come. From call to call the bytes stay what they are, at any address, and more may come behind them; if last was set, none
+ * come. From call to call the bytes stay what they are, at any address, and more may come after them; if last was set, none
  * comes, and it stays set.
  *
  * Returns what bogzhami_next returns, and

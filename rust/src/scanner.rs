@@ -642,7 +642,7 @@ pub struct Feed {
     encoding: Encoding,
     handle: Handle,
     rooms: Rooms,
-    /// What came, and room behind it.
+    /// What came, and room after it.
     window: Vec<u8>,
     came: usize,
     rest: Rest,
@@ -650,7 +650,7 @@ pub struct Feed {
     pace: Pace,
 }
 
-/// What may come behind what came.
+/// What may come after what came.
 #[derive(PartialEq)]
 enum Rest {
     /// More bytes, or the end.
@@ -759,7 +759,7 @@ impl Feed {
         self.rest == Rest::Open && self.stage != Stage::Over
     }
 
-    /// The room for bytes behind those that came, so many; `None` if memory is refused.
+    /// The room for bytes after those that came, so many; `None` if memory is refused.
     fn room(&mut self, len: usize) -> Option<&mut [u8]> {
         let wanted = self.came.checked_add(len)?;
         if self.window.len() < wanted {

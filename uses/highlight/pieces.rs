@@ -127,7 +127,7 @@ impl<'a> Cutter<'a> {
         self.fault();
     }
 
-    /// Cuts off what comes before an index, in which there is no token. Behind a fault comments are none.
+    /// Cuts off what comes before an index, in which there is no token. After a fault comments are none.
     pub fn rest(&mut self, end: usize, is_after_fault: bool) {
         if !is_after_fault {
             self.gap(end);

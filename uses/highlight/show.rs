@@ -9,7 +9,7 @@ use crate::Form;
 use std::io::{self, Write};
 
 /// An input of which more may come. The text up to the end of the last token that no more bytes can change is written at once.
-/// Behind a fault each whole line is.
+/// After a fault each whole line is.
 pub struct Show<'a> {
     out: &'a mut Screen,
     form: Form,
@@ -23,7 +23,7 @@ pub struct Show<'a> {
     is_refused: bool,
     /// Whether the last line of a page is open.
     is_open: bool,
-    /// How many of the bytes that are not shown have no line feed, behind a fault.
+    /// How many of the bytes that are not shown have no line feed, after a fault.
     unbroken: usize,
 }
 
@@ -107,7 +107,7 @@ impl<'a> Show<'a> {
         Ok(())
     }
 
-    /// Shows the lines behind a fault that are whole. A piece of a line could be a piece of a character.
+    /// Shows the lines after a fault that are whole. A piece of a line could be a piece of a character.
     fn show_lines(&mut self) -> io::Result<()> {
         let end = self.text.left[self.unbroken..].iter().rposition(|byte| *byte == b'\n');
         if let Some(end) = end {

@@ -174,7 +174,7 @@ static void end_words(const struct bogzhami_answer *answer, uint8_t *texts) {
 /* How many bytes wait to become a token. It is not asked for once all came. */
 static size_t waiting(const struct input *input) { return input->len - input->settled; }
 
-/* Sees that there is room for so many bytes behind those that came. */
+/* Sees that there is room for so many bytes after those that came. */
 static int make_room(struct input *input, size_t wanted) {
     size_t least = input->len + wanted, doubled = 2 * input->room;
     if (least <= input->room)

@@ -697,7 +697,7 @@ static bool scan(struct file *f) {
     return f->answer.error != BOGZHAMI_MEMORY_ERROR;
 }
 
-/* Looks at the rest of the input. Behind a fault of the scanner that is lines; behind one of the reader it is nothing. */
+/* Looks at the rest of the input. After a fault of the scanner that is lines; after one of the reader it is nothing. */
 static bool check_rest(struct file *f) {
     bool has_lines = f->answer.error == BOGZHAMI_SCANNER_ERROR;
     if (has_lines)

@@ -24,7 +24,7 @@ use yaml_text::{yaml_encoding_t, yaml_token_t};
 #[derive(Drop)]
 struct settled_lines_t {
     lines: token_lines_t,
-    /// Whether memory was refused. No line is added after that.
+    /// Whether memory was refused to a line. Then the lines are not all, and are thrown away.
     lost: bool,
     /// Where the last token ends, in bytes of the text.
     end: u64,
@@ -267,7 +267,8 @@ impl follower_t {
 }
 
 /// Lists the tokens of an input while it comes: reads, and writes the line of each token as soon as no more bytes can
-/// change it. After the line of a fault nothing more is read.
+/// change it. So that the time grows with the length of the input alone, what comes of a long scalar or comment may wait:
+/// once it has a megabyte it waits until it has grown by a quarter. After the line of a fault nothing more is read.
 ///
 /// What is written at any time begins the listing of each input that may begin with what was read. All lines of an input
 /// in UTF-16 come at its end.
